@@ -413,9 +413,8 @@ uint32_t likes_client_turn(likes_client *client, uint32_t seat);
 uint32_t likes_client_retire(likes_client *client, uint32_t seat);
 uint32_t likes_client_come_back(likes_client *client, uint32_t seat);
 
-/* Runs requests one by one, as likes_seat_run does. It also stops at the first whose answer is LIKES_BUSY, and does none
- * if the first answer is LIKES_UNKNOWN_SEAT. At a seat that this client has locked, none is LIKES_BUSY, and each costs
- * less. */
+/* Runs requests one by one, as likes_seat_run does, and no other thread calls the seat meanwhile. It does none if the
+ * first answer is LIKES_UNKNOWN_SEAT or LIKES_BUSY. At a seat that this client has locked, it is never LIKES_BUSY. */
 size_t likes_client_run(likes_client *client, uint32_t seat, const likes_request *requests, size_t requests_len,
                         likes_answer *answers, size_t answers_len);
 

@@ -530,13 +530,11 @@ size_t likes_proved_client_run(likes_client *client, uint32_t number, const like
                                size_t requests_len, likes_answer *answers, size_t answers_len) {
     stub_seat *seat;
     uint32_t status = take(client, number, &seat);
-    size_t done = 0;
+    size_t done;
     if (status != LIKES_OK) {
-        while (status != LIKES_EMPTY && done < requests_len && done < answers_len && !is_known(&requests[done]))
-            tell(&answers[done++], LIKES_UNKNOWN_OP, 0, 0);
-        if (done < answers_len && (done < requests_len || status == LIKES_EMPTY))
-            tell(&answers[done], status, 0, 0);
-        return done;
+        if (answers_len > 0 && (requests_len > 0 || status == LIKES_EMPTY))
+            tell(&answers[0], status, 0, 0);
+        return 0;
     }
     done = run(seat, requests, requests_len, answers, answers_len);
     give(client, seat);

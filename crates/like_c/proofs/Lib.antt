@@ -1,5 +1,5 @@
-mod Asking
 pub mod Handle
 pub mod Homes
 pub mod Owners
+mod Told
 pub mod Unwritten

@@ -135,10 +135,10 @@ abbrev pub LastLikesAt : ℕ → Option BoxedSeat → List ℕ → ℕ → List 
 LastLikesAt from at old result pages after =
     At ((result ≡ status.empty) × (pages ≡ old)) (λ s t. (t ≡ s) × GivesLasts s.live from old result pages) at after
 
--- the first answer, if there is one, tells that the handle is empty
-abbrev pub with_empty : List AnswerRow → List AnswerRow
-with_empty [] = []
-with_empty (row ∷ rows) = status_row status.empty ∷ rows
+-- the first answer, if there is one, tells this status
+abbrev pub with_first : ℕ → List AnswerRow → List AnswerRow
+with_first status [] = []
+with_first status (row ∷ rows) = status_row status ∷ rows
 
 -- the answers that have no request stay as they were
 abbrev pub KeepsUnasked : List RequestRow → List AnswerRow → List AnswerRow → Type 0
@@ -148,7 +148,7 @@ KeepsUnasked requests old rows = (i : ℕ) → length requests ≤ i → slice_g
 abbrev pub RunsAt :
     Option BoxedSeat → List RequestRow → List AnswerRow → List AnswerRow → ℕ → Option BoxedSeat → Type 0
 RunsAt at requests old rows done after =
-    SeatAt ((done ≡ 0) × (rows ≡ with_empty old))
+    SeatAt ((done ≡ 0) × (rows ≡ with_first status.empty old))
     (λ v w. RunCase call_of row_of v requests rows done w × KeepsUnasked requests old rows) at after
 
 -- nothing but the driver has changed, which is the same one

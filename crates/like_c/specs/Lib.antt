@@ -10,3 +10,4 @@ pub mod Opened
 pub mod Rows
 pub mod Sharing
 pub mod Status
+pub mod Told

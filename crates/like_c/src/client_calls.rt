@@ -130,8 +130,9 @@ pub extern "C" fn likes_proved_client_lasts(
     status::of_told_lasts(boxed.row(seat, &LastsRow { from }, pages))
 }
 
-/// Runs requests one by one. It stops at the first that is `BETWEEN`, `NO_ROOM`, `BUSY` or `UNKNOWN_SEAT`, whose answer
-/// has that status, and at the end of the shorter array. Later answers are left as they were.
+/// Runs requests one by one. It stops at the first that is `BETWEEN` or `NO_ROOM`, whose answer has that status, and at
+/// the end of the shorter array. At a seat that is `BUSY` or an `UNKNOWN_SEAT` it does none, and the first answer has
+/// that status. Later answers are left as they were.
 #[unsafe(no_mangle)]
 pub extern "C" fn likes_proved_client_run(
     client: &mut ClientHandle,

@@ -19,6 +19,7 @@ mod opened;
 mod parts;
 mod phase_handle;
 mod phase_row;
+mod request_run;
 mod rows;
 mod seat_handle;
 mod shared_calls;

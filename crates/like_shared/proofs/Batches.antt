@@ -33,7 +33,7 @@ made-one v now (call.Glance user page) (answer.Glance a) m = (glance user page a
 one-row : {R T : Type 0} (asks : R → Result Call T) (tells : Answer → T) (v now : LiveView) (row : R) (x : T)
     (put_off : Bool) → AnswersRow asks tells v row x put_off now
     → (one : List Told) × HasDone v one now × IsToldOne asks tells row x one
-one-row asks tells v now row x put_off (makes_call c a asked made written again) =
+one-row asks tells v now row x put_off (makes_call c a asked made page written again) =
     let m = made-one v now c a made in (m.0 ∷ [], m.1, told_one c a m.0 asked m.2 written refl)
 one-row asks tells v now row x put_off (has_no_call none no_more same) = ([], same, told_none none refl)
 

@@ -1,7 +1,7 @@
 -- Rows of calls at a seat are deeds.
 use Rattle.std.proofs.Common.{◌≡◌, ℕ, zero, suc, ◌+◌, ◌<◌, ◌≤◌, Bool, false, true, List, [], ◌∷◌, ◌++◌, length, take, Result, Ok, Err, Some, refl, sym, ap, ◌∙◌, subst, arith, add-one}
 use Rattle.std.specs.List.{slice_get, zip}
-use Rattle.std.specs.Prelude.{◌↔◌, IsTrue, flat_map}
+use Rattle.std.specs.Prelude.{flat_map}
 use Rattle.std.proofs.lemmas.Bool.{false≢true}
 use Rattle.std.proofs.lemmas.Option.{same_Some, slice_get_within}
 use Rattle.std.proofs.lemmas.List.{flat_map_more, take_all}
@@ -19,7 +19,7 @@ use Rattle.like_live.specs.declared.call.Answer.{Answer}
 use Rattle.like_live.specs.declared.call.Answer.TheVariants as answer
 use Rattle.like_live.specs.declared.call.Call.{Call}
 use Rattle.like_live.specs.declared.call.Call.TheVariants as call
-use Rattle.like_live.specs.Batch.{AnswersRow, AnswersRows, IsPutOff, Makes, RunCase, all_rows, has_no_call, makes_call, stops_at}
+use Rattle.like_live.specs.Batch.{AnswersRow, AnswersRows, Makes, RunCase, TellsPage, all_rows, has_no_call, makes_call, stops_at}
 use Rattle.like_live.specs.Calls as calls
 use Rattle.like_live.specs.LiveView.{IsSameSeat, LiveView, with_station}
 use Rattle.like_live.specs.Moves.{FindsAll, Moves, Works, acknowledged, acknowledges, is_gone, looked, reports, runs_joined, runs_split, waits, works}
@@ -27,7 +27,7 @@ use Rattle.like_live.proofs.Calling.{GlancesNow-leaves, LeavesLikes, LikesNow-sa
 use Rattle.like_live.proofs.Moving.{Leaves-looked}
 use Rattle.like_shared.specs.declared.deed.SeatDeed.{SeatDeed}
 use Rattle.like_shared.specs.Deeds.{SeatDoes}
-use Rattle.like_shared.specs.Rows.{IsAnswerTo, deeds_of_call, deeds_of_rows}
+use Rattle.like_shared.specs.Rows.{IsAnswerTo, IsRowDone, IsRowPutOff, deeds_of_call, deeds_of_rows, row_deeds}
 use Rattle.like_shared.proofs.Same.{same-seat, same-seats}
 
 -- phase work leaves the same seat
@@ -99,72 +99,7 @@ call-run v now (call.Look user page tag) (answer.Glance a) wrong = absurd wrong
 call-run v now (call.Glance user page) (answer.Like a) wrong = absurd wrong
 call-run v now (call.Glance user page) (answer.Look a) wrong = absurd wrong
 
--- the call that a row asks for
-abbrev asked_by : Call → Result Call Answer → Call
-asked_by row (Ok c) = c
-asked_by row (Err told) = row
-
--- a row that is answered is a deed
-row-run : (v now : LiveView) (row : Call) (told : Answer) (put_off : Bool)
-    → AnswersRow (λ c. Ok c) (λ a. a) v row told put_off now → HasRun SeatDoes v (deeds_of_call row told) now
-row-run v now row told put_off (makes_call c a asks made is again) =
-    subst (λ x. HasRun SeatDoes v (deeds_of_call row x) now) (sym is)
-    (subst (λ r. HasRun SeatDoes v (deeds_of_call r a) now) (sym (ap (asked_by row) asks)) (call-run v now c a made))
-row-run v now row told put_off (has_no_call asks none same) = absurd (cc asks)
-
--- the deed of a row with its answer
-abbrev deeds_of : Call × Answer → List SeatDeed
-deeds_of r = deeds_of_call r.0 r.1
-
--- so are rows that are answered one by one
-rows-run : (v after : LiveView) (rows : List Call) (answers : List Answer)
-    → AnswersRows (λ c. Ok c) (λ a. a) v rows answers after → HasRun SeatDoes v (flat_map deeds_of (zip rows answers)) after
-rows-run v after [] [] answered = answered
-rows-run v after [] (x ∷ answers) answered = absurd answered
-rows-run v after (row ∷ rows) [] answered = absurd answered
-rows-run v after (row ∷ rows) (x ∷ answers) answered =
-    let rest = flat_map deeds_of (zip rows answers) in
-    subst (λ l. HasRun SeatDoes v l after) (sym (flat_map-cons deeds_of (row, x) (zip rows answers)))
-    (run-append SeatDoes v answered.0 after (deeds_of_call row x) rest
-    (row-run v answered.0 row x false answered.1.0) (rows-run answered.0 after rows answers answered.1.1))
-
--- rows and answers, so many of them
-zip-take : (n : ℕ) (rows : List Call) (answers : List Answer)
-    → take n (zip rows answers) ≡ zip (take n rows) (take n answers)
-zip-take zero rows answers = refl
-zip-take (suc n) [] answers = refl
-zip-take (suc n) (row ∷ rows) [] = refl
-zip-take (suc n) (row ∷ rows) (x ∷ answers) = ap (λ l. (row, x) ∷ l) (zip-take n rows answers)
-
--- and one more
-zip-next : (n : ℕ) (rows : List Call) (answers : List Answer) (row : Call) (x : Answer)
-    → slice_get rows n ≡ Some row → slice_get answers n ≡ Some x
-    → take (suc n) (zip rows answers) ≡ zip (take n rows) (take n answers) ++ (row, x) ∷ []
-zip-next n [] answers row x at there = absurd (cc at)
-zip-next n (r ∷ rows) [] row x at there = absurd (cc there)
-zip-next zero (r ∷ rows) (y ∷ answers) row x at there = λ i. (same_Some r row at i, same_Some y x there i) ∷ []
-zip-next (suc n) (r ∷ rows) (y ∷ answers) row x at there = ap (λ l. (r, y) ∷ l) (zip-next n rows answers row x at there)
-
--- a batch is the deeds of its rows
-pub batch-run : (v after : LiveView) (rows : List Call) (answers : List Answer) (done : ℕ)
-    → RunCase (λ c. Ok c) (λ a. a) v rows answers done after → HasRun SeatDoes v (deeds_of_rows rows answers done) after
-batch-run v after rows answers done (all_rows is answered) =
-    let pairs = zip rows answers in
-    let all : length pairs ≤ done = omega (arith, is, length-zip rows answers) in
-    let few : take (done + 1) pairs ≡ take done pairs =
-    take_all (done + 1) pairs (omega arith) ∙ sym (take_all done pairs all) in
-    subst (λ l. HasRun SeatDoes v (flat_map deeds_of l) after) (sym (few ∙ zip-take done rows answers))
-    (rows-run v after (take done rows) (take done answers) answered)
-batch-run v after rows answers done (stops_at now row told answered at there last) =
-    let pairs = zip (take done rows) (take done answers) in
-    let more : take (done + 1) (zip rows answers) ≡ pairs ++ (row, told) ∷ [] =
-    ap (λ n. take n (zip rows answers)) (add-one done) ∙ zip-next done rows answers row told at there in
-    subst (λ l. HasRun SeatDoes v l after)
-    (flat_map_more deeds_of [] pairs (row, told) ∙ sym (ap (flat_map deeds_of) more))
-    (run-append SeatDoes v now after (flat_map deeds_of pairs) (deeds_of_call row told)
-    (rows-run v now (take done rows) (take done answers) answered) (row-run now after row told true last))
-
--- a call is told an answer to it
+-- and is told an answer to it
 call-told : (v after : LiveView) (c : Call) (a : Answer) → Makes v c a after → IsAnswerTo c a
 call-told v after (call.Like user page) (answer.Like a) made = tt
 call-told v after (call.Look user page tag) (answer.Look a) made = tt
@@ -176,44 +111,125 @@ call-told v after (call.Look user page tag) (answer.Glance a) wrong = absurd wro
 call-told v after (call.Glance user page) (answer.Like a) wrong = absurd wrong
 call-told v after (call.Glance user page) (answer.Look a) wrong = absurd wrong
 
--- so is a row, and the answer says whether its call must be made again
-row-told : (v now : LiveView) (row : Call) (told : Answer) (put_off : Bool)
-    → AnswersRow (λ c. Ok c) (λ a. a) v row told put_off now
-    → IsAnswerTo row told × (IsTrue put_off ↔ IsPutOff told)
-row-told v now row told put_off (makes_call c a asks made is again) =
-    subst (λ x. IsAnswerTo row x × (IsTrue put_off ↔ IsPutOff x)) (sym is)
-    (subst (λ r. IsAnswerTo r a) (sym (ap (asked_by row) asks)) (call-told v now c a made), again)
-row-told v now row told put_off (has_no_call asks none same) = absurd (cc asks)
+-- rows and answers, so many of them
+zip-take : {R T : Type 0} (n : ℕ) (rows : List R) (answers : List T)
+    → take n (zip rows answers) ≡ zip (take n rows) (take n answers)
+zip-take zero rows answers = refl
+zip-take (suc n) [] answers = refl
+zip-take (suc n) (row ∷ rows) [] = refl
+zip-take (suc n) (row ∷ rows) (x ∷ answers) = ap (λ l. (row, x) ∷ l) (zip-take n rows answers)
 
--- no call of these must be
-rows-made : (n : ℕ) (rows : List Call) (answers : List Answer) (v after : LiveView)
-    → AnswersRows (λ c. Ok c) (λ a. a) v (take n rows) (take n answers) after → (i : ℕ) (c : Call) (a : Answer) → i < n
-    → slice_get rows i ≡ Some c → slice_get answers i ≡ Some a → IsAnswerTo c a × (¬ IsPutOff a)
-rows-made zero rows answers v after answered i c a less at there = absurd (omega arith)
-rows-made (suc n) rows [] v after answered i c a less at there = absurd (cc there)
-rows-made (suc n) [] (x ∷ answers) v after answered i c a less at there = absurd (cc at)
-rows-made (suc n) (row ∷ rows) (x ∷ answers) v after answered zero c a less at there =
-    let told = row-told v answered.0 row x false answered.1.0 in
-    subst (λ y. IsAnswerTo c y × (¬ IsPutOff y)) (same_Some x a there)
-    (subst (λ r. IsAnswerTo r x) (same_Some row c at) told.0, λ off. absurd (false≢true (told.1.1 off)))
-rows-made (suc n) (row ∷ rows) (x ∷ answers) v after answered (suc i) c a less at there =
-    rows-made n rows answers answered.0 after answered.1.1 i c a (omega arith) at there
+-- and one more
+zip-next : {R T : Type 0} (n : ℕ) (rows : List R) (answers : List T) (row : R) (x : T)
+    → slice_get rows n ≡ Some row → slice_get answers n ≡ Some x
+    → take (suc n) (zip rows answers) ≡ zip (take n rows) (take n answers) ++ (row, x) ∷ []
+zip-next n [] answers row x at there = absurd (cc at)
+zip-next n (r ∷ rows) [] row x at there = absurd (cc there)
+zip-next zero (r ∷ rows) (y ∷ answers) row x at there = λ i. (same_Some r row at i, same_Some y x there i) ∷ []
+zip-next (suc n) (r ∷ rows) (y ∷ answers) row x at there = ap (λ l. (r, y) ∷ l) (zip-next n rows answers row x at there)
 
--- what was done of a batch
-pub batch-made : (v after : LiveView) (rows : List Call) (answers : List Answer) (done : ℕ)
-    → RunCase (λ c. Ok c) (λ a. a) v rows answers done after
-    → ((i : ℕ) (c : Call) (a : Answer) → i < done → slice_get rows i ≡ Some c → slice_get answers i ≡ Some a
-    → IsAnswerTo c a × (¬ IsPutOff a))
-    × ((c : Call) (a : Answer) → slice_get rows done ≡ Some c → slice_get answers done ≡ Some a
-    → IsAnswerTo c a × IsPutOff a)
-batch-made v after rows answers done (all_rows is answered) = (
-  rows-made done rows answers v after answered,
-  λ c a at there. absurd (omega (arith, is, slice_get_within rows done c at, slice_get_within answers done a there)),
-)
-batch-made v after rows answers done (stops_at now row told answered at there last) =
-    let stop = row-told now after row told true last in (
-      rows-made done rows answers v now answered,
-      λ c a here is.
-          subst (λ y. IsAnswerTo c y × IsPutOff y) (same_Some told a (sym there ∙ is))
-          (subst (λ r. IsAnswerTo r told) (same_Some row c (sym at ∙ here)) stop.0, stop.1.0 refl),
-    )
+module _ {R T : Type 0} (asks : R → Result Call T) (tells : Answer → T) where
+  -- a row that is answered, and needn't be made again, is done
+  row-done : (v now : LiveView) (row : R) (told : T) → AnswersRow asks tells v row told false now
+      → IsRowDone tells (asks row) told
+  row-done v now row told (makes_call c a asked made page is again) =
+      subst (λ x. IsRowDone tells x told) (sym asked)
+      (a, call-told v now c a made, (λ off. absurd (false≢true (again.1 off))), is)
+  row-done v now row told (has_no_call none no_more same) = subst (λ x. IsRowDone tells x told) (sym none) refl
+
+  -- and one that must be is put off
+  row-put-off : (v now : LiveView) (row : R) (told : T) → AnswersRow asks tells v row told true now
+      → IsRowPutOff tells (asks row) told
+  row-put-off v now row told (makes_call c a asked made page is again) =
+      subst (λ x. IsRowPutOff tells x told) (sym asked) (a, call-told v now c a made, again.0 refl, is)
+  row-put-off v now row told (has_no_call none no_more same) = absurd (false≢true (sym no_more))
+
+  -- rows that are answered one by one are done
+  rows-done : (n : ℕ) (rows : List R) (answers : List T) (v after : LiveView)
+      → AnswersRows asks tells v (take n rows) (take n answers) after → (i : ℕ) (row : R) (told : T) → i < n
+      → slice_get rows i ≡ Some row → slice_get answers i ≡ Some told → IsRowDone tells (asks row) told
+  rows-done zero rows answers v after answered i row told less at there = absurd (omega arith)
+  rows-done (suc n) rows [] v after answered i row told less at there = absurd (cc there)
+  rows-done (suc n) [] (x ∷ answers) v after answered i row told less at there = absurd (cc at)
+  rows-done (suc n) (r ∷ rows) (x ∷ answers) v after answered zero row told less at there =
+      subst (λ y. IsRowDone tells (asks row) y) (same_Some x told there)
+      (subst (λ k. IsRowDone tells (asks k) x) (same_Some r row at) (row-done v answered.0 r x answered.1.0))
+  rows-done (suc n) (r ∷ rows) (x ∷ answers) v after answered (suc i) row told less at there =
+      rows-done n rows answers answered.0 after answered.1.1 i row told (omega arith) at there
+
+  -- what was done of a batch
+  pub batch-made : (v after : LiveView) (rows : List R) (answers : List T) (done : ℕ)
+      → RunCase asks tells v rows answers done after
+      → ((i : ℕ) (row : R) (told : T) → i < done → slice_get rows i ≡ Some row → slice_get answers i ≡ Some told
+      → IsRowDone tells (asks row) told)
+      × ((row : R) (told : T) → slice_get rows done ≡ Some row → slice_get answers done ≡ Some told
+      → IsRowPutOff tells (asks row) told)
+  batch-made v after rows answers done (all_rows is answered) = (
+    rows-done done rows answers v after answered,
+    λ row told at there.
+        absurd (omega (arith, is, slice_get_within rows done row at, slice_get_within answers done told there)),
+  )
+  batch-made v after rows answers done (stops_at now r x answered at there last) = (
+    rows-done done rows answers v now answered,
+    λ row told here is.
+        subst (λ y. IsRowPutOff tells (asks row) y) (same_Some x told (sym there ∙ is))
+        (subst (λ k. IsRowPutOff tells (asks k) x) (same_Some r row (sym at ∙ here)) (row-put-off now after r x last)),
+  )
+
+  -- rows with what they were told are deeds, if a row that asks for a call has the deed of that call with its answer, and
+  -- one that asks for none has none
+  module _ (deeds_of : R → T → List SeatDeed)
+      (of_call : (row : R) (c : Call) (a : Answer) → asks row ≡ Ok c → IsAnswerTo c a → TellsPage a
+      → deeds_of row (tells a) ≡ deeds_of_call c a)
+      (of_none : (row : R) (told : T) → asks row ≡ Err told → deeds_of row told ≡ []) where
+    -- the deeds of a row with what it was told
+    abbrev deeds_at : R × T → List SeatDeed
+    deeds_at r = deeds_of r.0 r.1
+
+    -- a row that is answered is its deeds
+    row-run : (v now : LiveView) (row : R) (told : T) (put_off : Bool) → AnswersRow asks tells v row told put_off now
+        → HasRun SeatDoes v (deeds_of row told) now
+    row-run v now row told put_off (makes_call c a asked made page is again) =
+        subst (λ l. HasRun SeatDoes v l now)
+        (sym (ap (deeds_of row) is ∙ of_call row c a asked (call-told v now c a made) page)) (call-run v now c a made)
+    row-run v now row told put_off (has_no_call none no_more same) =
+        subst (λ l. HasRun SeatDoes v l now) (sym (of_none row told none)) same
+
+    -- so are rows that are answered one by one
+    rows-run : (v after : LiveView) (rows : List R) (answers : List T) → AnswersRows asks tells v rows answers after
+        → HasRun SeatDoes v (flat_map deeds_at (zip rows answers)) after
+    rows-run v after [] [] answered = answered
+    rows-run v after [] (x ∷ answers) answered = absurd answered
+    rows-run v after (row ∷ rows) [] answered = absurd answered
+    rows-run v after (row ∷ rows) (x ∷ answers) answered =
+        let rest = flat_map deeds_at (zip rows answers) in
+        subst (λ l. HasRun SeatDoes v l after) (sym (flat_map-cons deeds_at (row, x) (zip rows answers)))
+        (run-append SeatDoes v answered.0 after (deeds_of row x) rest
+        (row-run v answered.0 row x false answered.1.0) (rows-run answered.0 after rows answers answered.1.1))
+
+    -- a batch is the deeds of its rows
+    pub batch-run : (v after : LiveView) (rows : List R) (answers : List T) (done : ℕ)
+        → RunCase asks tells v rows answers done after → HasRun SeatDoes v (row_deeds deeds_of rows answers done) after
+    batch-run v after rows answers done (all_rows is answered) =
+        let pairs = zip rows answers in
+        let all : length pairs ≤ done = omega (arith, is, length-zip rows answers) in
+        let few : take (done + 1) pairs ≡ take done pairs =
+        take_all (done + 1) pairs (omega arith) ∙ sym (take_all done pairs all) in
+        subst (λ l. HasRun SeatDoes v (flat_map deeds_at l) after) (sym (few ∙ zip-take done rows answers))
+        (rows-run v after (take done rows) (take done answers) answered)
+    batch-run v after rows answers done (stops_at now row told answered at there last) =
+        let pairs = zip (take done rows) (take done answers) in
+        let more : take (done + 1) (zip rows answers) ≡ pairs ++ (row, told) ∷ [] =
+        ap (λ n. take n (zip rows answers)) (add-one done) ∙ zip-next done rows answers row told at there in
+        subst (λ l. HasRun SeatDoes v l after)
+        (flat_map_more deeds_at [] pairs (row, told) ∙ sym (ap (flat_map deeds_at) more))
+        (run-append SeatDoes v now after (flat_map deeds_at pairs) (deeds_of row told)
+        (rows-run v now (take done rows) (take done answers) answered) (row-run now after row told true last))
+
+-- so is a batch of calls
+pub calls-run : (v after : LiveView) (rows : List Call) (answers : List Answer) (done : ℕ)
+    → RunCase (λ c. Ok c) (λ a. a) v rows answers done after → HasRun SeatDoes v (deeds_of_rows rows answers done) after
+calls-run =
+    batch-run (λ c. Ok c) (λ a. a) deeds_of_call
+    (λ row c a asks told page. (let same : row ≡ c = cc asks in ap (λ r. deeds_of_call r a) same))
+    (λ row told asks. absurd (cc asks))

@@ -1,5 +1,5 @@
 -- The deeds of rows of calls, and of rows of likes.
-use Rattle.std.specs.Prelude.{◌≡◌, ◌≢◌, ℕ, ◌+◌, ◌<◌, ◌≤◌, List, [], ◌∷◌, flat_map, length, slice_get, take, Some, ⊤}
+use Rattle.std.specs.Prelude.{◌≡◌, ◌≢◌, ℕ, ◌+◌, ◌<◌, ◌≤◌, List, [], ◌∷◌, flat_map, length, slice_get, take, Result, Ok, Err, Some, ⊤}
 use Rattle.std.specs.List.{zip}
 use Rattle.like_live.specs.declared.answer.LikeAnswer.TheVariants.{Liked}
 use Rattle.like_live.specs.declared.answer.TurnAnswer.TheVariants.{Runs}
@@ -23,8 +23,11 @@ deeds_of_call c a = []
 
 -- the deeds of rows, so many of which were done: these, and that of the row whose call must be made again, if there is
 -- one
+abbrev pub row_deeds : {R T : Type 0} → (R → T → List SeatDeed) → List R → List T → ℕ → List SeatDeed
+row_deeds deeds_of rows answers done = flat_map (λ r. deeds_of r.0 r.1) (take (done + 1) (zip rows answers))
+
 abbrev pub deeds_of_rows : List Call → List Answer → ℕ → List SeatDeed
-deeds_of_rows rows answers done = flat_map (λ r. deeds_of_call r.0 r.1) (take (done + 1) (zip rows answers))
+deeds_of_rows = row_deeds deeds_of_call
 
 -- the answer is one to this call
 abbrev pub IsAnswerTo : Call → Answer → Type 0
@@ -33,15 +36,27 @@ IsAnswerTo (call.Look user page tag) (answer.Look a) = ⊤
 IsAnswerTo (call.Glance user page) (answer.Glance a) = ⊤
 IsAnswerTo c a = ⊥
 
--- so many rows were done: they are answered, and no answer says that the call must be made again. The next row's says so,
--- if there is one. Later answers are as they were
-pub record AreAnswered (rows : List Call) (old answers : List Answer) (done : ℕ) : Type 0 where
+-- a row is done: it was told an answer to its call, which needn't be made again, or that it asks for none
+abbrev pub IsRowDone : {T : Type 0} → (Answer → T) → Result Call T → T → Type 0
+IsRowDone tells (Ok c) told = (a : Answer) × IsAnswerTo c a × (¬ IsPutOff a) × (told ≡ tells a)
+IsRowDone tells (Err none) told = told ≡ none
+
+-- a row is put off: it was told an answer to its call, which must be made again
+abbrev pub IsRowPutOff : {T : Type 0} → (Answer → T) → Result Call T → T → Type 0
+IsRowPutOff tells (Ok c) told = (a : Answer) × IsAnswerTo c a × IsPutOff a × (told ≡ tells a)
+IsRowPutOff tells (Err none) told = ⊥
+
+-- so many rows were done. The next one was put off, if there is one. Later answers are as they were, and so are those
+-- that have no row
+pub record AreAnswered {R T : Type 0} (asks : R → Result Call T) (tells : Answer → T) (rows : List R)
+    (old answers : List T) (done : ℕ) : Type 0 where
   pub rows_few : done ≤ length rows
   pub answers_few : done ≤ length answers
-  pub made : (i : ℕ) (c : Call) (a : Answer) → i < done → slice_get rows i ≡ Some c → slice_get answers i ≡ Some a
-      → IsAnswerTo c a × (¬ IsPutOff a)
-  pub next : (c : Call) (a : Answer) → slice_get rows done ≡ Some c → slice_get answers done ≡ Some a
-      → IsAnswerTo c a × IsPutOff a
+  pub len : length answers ≡ length old
+  pub made : (i : ℕ) (row : R) (told : T) → i < done → slice_get rows i ≡ Some row
+      → slice_get answers i ≡ Some told → IsRowDone tells (asks row) told
+  pub next : (row : R) (told : T) → slice_get rows done ≡ Some row → slice_get answers done ≡ Some told
+      → IsRowPutOff tells (asks row) told
   pub later : (i : ℕ) → done < i → slice_get answers i ≡ slice_get old i
   pub unasked : (i : ℕ) → length rows ≤ i → slice_get answers i ≡ slice_get old i
 

@@ -1,5 +1,5 @@
 //! A thread's client of a shared service, and its calls.
-ghost use Rattle.std.specs.Prelude.{◌≡◌, ◌+◌, ◌<◌, ◌≤◌, IfNone, IfOk, IsFalse, MatchResult, drop, false, length, slice_set, true};
+ghost use Rattle.std.specs.Prelude.{◌≡◌, ◌+◌, ◌<◌, ◌≤◌, IfNone, IfOk, IsFalse, MatchResult, Ok, drop, false, length, slice_set, true};
 ghost use Rattle.like_requests.specs.Verdict.{home};
 ghost use Rattle.like_shared.specs.declared.deed.DriverDeed.TheVariants as driver_deed;
 ghost use Rattle.like_shared.specs.declared.deed.SeatDeed.TheVariants as deed;
@@ -154,7 +154,7 @@ impl Client {
         requires seat { seat < seats_of service.now }
         ensures client { IsClient service.now self.new }
         ensures log { AreLogged self.old seat (deeds_of_rows rows.now answers.new) result self.new }
-        ensures answers { MatchResult result (AreAnswered rows.now answers.old answers.new)
+        ensures answers { MatchResult result (AreAnswered Ok (λ a. a) rows.now answers.old answers.new)
             (λ _. answers.new ≡ answers.old) }
     {
         self.row(service, seat, &CallRow { calls: rows }, answers)

@@ -1,5 +1,5 @@
 //! Rows of calls, rows of likes, and last likes of a seat.
-ghost use Rattle.std.specs.Prelude.{◌≡◌, [], ◌∷◌, IsFalse};
+ghost use Rattle.std.specs.Prelude.{◌≡◌, [], ◌∷◌, IsFalse, Ok};
 ghost use Rattle.told_lock.specs.Deeds.{HasRun};
 ghost use Rattle.like_shared.specs.declared.deed.SeatDeed.TheVariants.{Lasts};
 ghost use Rattle.like_shared.specs.Deeds.{SeatDoes};
@@ -24,7 +24,7 @@ impl<'a> SeatRow for CallRow<'a> {
 
     ghost deeds = { λ row done answers. deeds_of_rows row.calls.now answers done };
 
-    ghost writes = { λ row done old new. AreAnswered row.calls.now old new done };
+    ghost writes = { λ row done old new. AreAnswered Ok (λ a. a) row.calls.now old new done };
 
     fn make(&self, seat: &mut Seat, answers: &mut [Answer]) -> usize {
         run_calls(seat, self.calls, answers)
@@ -34,7 +34,7 @@ impl<'a> SeatRow for CallRow<'a> {
 // Makes the calls of a row at a seat.
 fn run_calls(seat: &mut Seat, rows: &[Call], answers: &mut [Answer]) -> usize
     ensures run { HasRun SeatDoes seat.old (deeds_of_rows rows.now answers.new result) seat.new }
-    ensures answers { AreAnswered rows.now answers.old answers.new result }
+    ensures answers { AreAnswered Ok (λ a. a) rows.now answers.old answers.new result }
 {
     seat.run(rows, answers)
 }

@@ -3,4 +3,4 @@ use Rattle.like_c.specs.Held.{at_some}
 use Rattle.like_c.proofs.client_calls.likes_proved_client_run.Goals as goal
 
 pub returns-clause-rows : goal.returns-clause-rows
-returns-clause-rows c = at_some _ _ c.in-Some.ensures.client (c.run.ensures.case, c.run.ensures.unasked) refl
+returns-clause-rows c = at_some _ _ c.in-Some.ensures.client c.run.ensures.case refl

@@ -1,45 +1,24 @@
-use Rattle.std.proofs.Common.{◌<◌, ◌∙◌, arith, length}
-use Rattle.std.proofs.lemmas.Option.{slice_get-get_or}
-use Rattle.like_live.proofs.Batches.{set-behind}
-use Rattle.like_c.proofs.Asking.{rows-more, rows-stop}
+use Rattle.std.proofs.Common.{ℕ, List, Ok, Err, refl, ap, ◌∙◌}
+use Rattle.like_shared.specs.declared.deed.SeatDeed.{SeatDeed}
+use Rattle.like_c.specs.declared.boxed_client.BoxedClient.{BoxedClient}
+use Rattle.like_c.specs.ClientRows.{with_refused}
+use Rattle.like_c.specs.Clients.{Calls, busy, made, no_seat}
 use Rattle.like_c.proofs.boxed_client.BoxedClient.run.Goals as goal
 
-pub returns-then-answer-clause-case : goal.returns-then-answer-clause-case
-returns-then-answer-clause-case c =
-    let i = c.loop-done.done in
-    let asked : i < length c.args.requests.now = omega (arith, c.loop-done-test.true, c.min-most.ensures) in
-    rows-stop c.args.seat c.args.self.now c.loop-done.self c.answer.new.self c.args.requests.now
-    c.loop-done.answers i _ c.answer.new.told c.answer.result (slice_get-get_or c.args.requests.now i _ asked) asked
-    (omega (arith, c.loop-done-test.true, c.min-most.ensures, c.loop-done.auto.answers))
-    c.loop-done.invariant.ran c.answer.ensures c.if-answer.true
+-- calls that were refused are no deeds, whichever they are
+still-refused : {A : Type 0} (seat : ℕ) (deeds others : A → List SeatDeed) (status : ℕ) (b c : BoxedClient)
+    → Calls seat deeds (Err status) b c → Calls seat others (Err status) b c
+still-refused seat deeds others status b c (made answer told log keeps) = absurd (cc told)
+still-refused seat deeds others status b c (busy it told log keeps) =
+    busy it told (record { seats = log.seats; driver = log.driver; held = log.held }) keeps
+still-refused seat deeds others status b c (no_seat none told same) = no_seat none told same
 
-pub returns-then-answer-clause-rest : goal.returns-then-answer-clause-rest
-returns-then-answer-clause-rest c = λ k past.
-    set-behind c.loop-done.answers c.loop-done.done k c.answer.new.told past
-    ∙ c.loop-done.invariant.rest k (omega arith)
+pub returns-in-Ok-clause-case : goal.returns-in-Ok-clause-case
+returns-in-Ok-clause-case c = (Ok c.in-Ok.done, c.in-Ok.ensures.calls, (refl, c.in-Ok.ensures.places))
 
-pub returns-then-answer-clause-unasked : goal.returns-then-answer-clause-unasked
-returns-then-answer-clause-unasked c = λ k past.
-    let below : c.loop-done.done < k = omega (arith, c.loop-done-test.true, c.min-most.ensures) in
-    set-behind c.loop-done.answers c.loop-done.done k c.answer.new.told below
-    ∙ c.loop-done.invariant.rest k (omega arith)
-
-pub returns-clause-unasked : goal.returns-clause-unasked
-returns-clause-unasked c = λ k past.
-    c.loop-done.invariant.rest k (omega (arith, c.loop-done.auto.done-end, c.min-most.ensures))
-
-pub returns-clause-rest : goal.returns-clause-rest
-returns-clause-rest c = λ k past. c.loop-done.invariant.rest k (omega (arith, c.loop-done.auto.done-end))
-
-pub loop-done-preserved : goal.loop-done-preserved
-loop-done-preserved c =
-    let i = c.loop-done.done in
-    let asked : i < length c.args.requests.now = omega (arith, c.loop-done-test.true, c.min-most.ensures) in
-    record {
-      ran = rows-more c.args.seat c.args.self.now c.loop-done.self c.answer.new.self c.args.requests.now
-          c.loop-done.answers i _ c.answer.new.told c.answer.result (slice_get-get_or c.args.requests.now i _ asked) asked
-          (omega (arith, c.loop-done-test.true, c.min-most.ensures, c.loop-done.auto.answers))
-          c.loop-done.invariant.ran c.answer.ensures c.if-answer.false;
-      rest = λ k past.
-          set-behind c.loop-done.answers i k c.answer.new.told (omega arith) ∙ c.loop-done.invariant.rest k (omega arith);
-    }
+pub returns-in-Err-clause-case : goal.returns-in-Err-clause-case
+returns-in-Err-clause-case c = (
+  Err c.in-Err.refused,
+  still-refused c.args.seat _ _ c.in-Err.refused _ _ c.in-Err.ensures.calls,
+  (refl, c.tell_refused.ensures.told ∙ ap (with_refused c.in-Err.refused c.args.requests.now) c.in-Err.ensures.places),
+)
