@@ -54,10 +54,10 @@ stays-kept s k l (d ∷ ds) is run =
     let step = run.1 in
     stays-kept s run.0 l ds (one-service s step.0 k run.0 is step.1 step.2) run.2
 
--- who holds a value that nobody has written yet has it as it was taken
-pub as-taken : {T C D : Type 0} (lock : Lock T C D) (p : Pass T C) (x y z : T) → IsHolding lock p x y
-    → IsHolding lock p z z → y ≡ z
-as-taken {T} lock p x y z this that =
+-- what a pass has is one value
+pub as-held : {T C D : Type 0} (lock : Lock T C D) (p : Pass T C) (x y z w : T) → IsHolding lock p x y
+    → IsHolding lock p z w → y ≡ w
+as-held {T} lock p x y z w this that =
     ap (λ (l : List (ℕ × T)). (get_or l 0 (0, y)).1) (ap (λ m. m.1) (sym this.holding ∙ that.holding))
 
 -- and has another once it is written

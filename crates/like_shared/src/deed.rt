@@ -1,4 +1,5 @@
 //! What is done to a seat and to a driver.
+ghost use Rattle.std.specs.Prelude.{[]};
 ghost use Rattle.like_shared.specs.Deeds.{DriverDoes, SeatDoes};
 
 use like_board::SharedPost;
@@ -9,7 +10,7 @@ use like_live::{
 };
 use like_requests::Verdict;
 use std::collections::LinkedList;
-use told_lock::Deeds;
+use told_lock::{Deeds, Done};
 
 /// A call of a seat, with its answer, as contracts see it. No value of it is made.
 pub enum SeatDeed {
@@ -99,4 +100,11 @@ pub struct DriverDeeds;
 
 impl Deeds<Driver<Guided>, DriverDeed> for DriverDeeds {
     ghost does = { DriverDoes };
+}
+
+// Nothing was done since the last deed.
+pub(crate) struct NoDeed;
+
+impl<C> Done<C> for NoDeed {
+    ghost done = { [] };
 }

@@ -6,10 +6,11 @@ ghost use Rattle.told_lock.specs.Rights.{IsHolding, IsIdle, IsKeeper, first_of, 
 ghost use Rattle.like_live.specs.Opening.{IsRefused};
 ghost use Rattle.like_live.specs.Service.{AreOpened};
 ghost use Rattle.like_shared.specs.declared.desk.DeskDeed.TheVariants.{Made, Parked};
-ghost use Rattle.like_shared.specs.Desk.{DeskDoes, KeepsTold};
+ghost use Rattle.like_shared.specs.Desk.{KeepsTold};
 ghost use Rattle.like_shared.specs.Shared.{IsClient, IsServiceKeeper, IsUnused, driver_log, first_driver, first_seats, held_by, pages_of, seat_logs, seats_of};
 
 use crate::client::Client;
+use crate::deed::NoDeed;
 use crate::desk::{Card, Cards, Desk, DeskDeed};
 use crate::service::{NotClosed, SharedService};
 use like_live::{OpenError, Opening};
@@ -118,15 +119,32 @@ impl Hub {
         ensures driver_log { IfOk result (λ client. driver_log client ≡ []) }
         ensures held { IfOk result (λ client. held_by client ≡ replicate (seats_of self.now.service) false) }
     {
-        if !self.desk.try_take(card) {
+        if !self.enter(card) {
             return Err(NoClient::Busy);
         }
-        let made = self.make_client(alloc, card);
-        self.leave_after_making::<Brand>(card);
+        let made = self.make_there(alloc, card);
+        self.leave(card);
         match made {
             Ok(client) => Ok(client),
             Err(AllocError) => Err(NoClient::Memory),
         }
+    }
+
+    /// Another client, made by a card that is at the desk and stays there, so that the client can be parked if there is no
+    /// memory for what goes with it. `Err`: there is no memory, or 2^64 - 1 clients are out.
+    pub fn make_there(&self, alloc: Global, card: &mut Card) -> Result<Client, AllocError>
+        requires { IsAtDesk self.now card.old }
+        ensures card { IsAtDesk self.now card.new }
+        ensures name { name_of card.new ≡ name_of card.old }
+        ensures log { log_of card.new ≡ log_of card.old ++ Made ∷ [] }
+        ensures client { IfOk result (λ client. IsClient self.now.service client) }
+        ensures logs { IfOk result (λ client. seat_logs client ≡ replicate (seats_of self.now.service) []) }
+        ensures driver_log { IfOk result (λ client. driver_log client ≡ []) }
+        ensures held { IfOk result (λ client. held_by client ≡ replicate (seats_of self.now.service) false) }
+    {
+        let made = self.make_client(alloc, card);
+        self.note_made::<Brand>(card);
+        made
     }
 
     /// Parks a client, with its log, and gives back the seats that it holds. It comes back as it was if another thread is
@@ -165,6 +183,16 @@ impl Hub {
         ensures log { log_of card.new ≡ log_of card.old ++ Parked client ∷ [] }
     {
         self.leave_after_parking::<Brand>(card, client);
+    }
+
+    /// Leaves the desk. The log has all that was done there.
+    pub fn leave(&self, card: &mut Card)
+        requires { IsAtDesk self.now card.old }
+        ensures card { IsIdle self.now.desk card.new }
+        ensures name { name_of card.new ≡ name_of card.old }
+        ensures log { log_of card.new ≡ log_of card.old }
+    {
+        self.desk.give_back_after::<NoDeed>(card);
     }
 
     /// Takes a card back.
@@ -233,15 +261,16 @@ impl Hub {
         self.service.new_client(alloc, card.value_mut(&self.desk))
     }
 
-    // The card gives the keeper back: the proof of a call picks the deed as that of `J`.
-    fn leave_after_making<J: Done<DeskDeed>>(&self, card: &mut Card)
+    // The card keeps the keeper, after it made a client: the proof of a call picks the deed as that of `J`.
+    fn note_made<J: Done<DeskDeed>>(&self, card: &mut Card)
         requires deed { J.done ≡ Made ∷ [] }
-        requires made { (k : _) × (l : _) × IsHolding self.now.desk card.old k l × DeskDoes k Made l }
-        ensures card { IsIdle self.now.desk card.new }
+        requires made { (k : _) × (l : _) × IsHolding self.now.desk card.old k l × IsServiceKeeper self.now.service k
+            × IsServiceKeeper self.now.service l × KeepsTold self.now.service k Made l }
+        ensures card { IsAtDesk self.now card.new }
         ensures name { name_of card.new ≡ name_of card.old }
         ensures log { log_of card.new ≡ log_of card.old ++ Made ∷ [] }
     {
-        self.desk.give_back_after::<J>(card);
+        self.desk.note_after::<J>(card);
     }
 
     // The card's keeper takes a client back, and the card gives the keeper back.

@@ -1,18 +1,10 @@
 //! A seat is locked and unlocked by a thread.
-ghost use Rattle.std.specs.Prelude.{◌≡◌, [], false, true, MatchResult};
+ghost use Rattle.std.specs.Prelude.{◌≡◌, false, true, MatchResult};
 ghost use Rattle.told_lock.specs.Rights.{IsHolding, IsIdle, log_of, name_of};
 ghost use Rattle.like_shared.specs.Passes.{IsReady, log_at};
 
-use crate::deed::SeatDeed;
+use crate::deed::NoDeed;
 use crate::seat_call::{Busy, FreePass, SeatLock, SeatPass};
-use told_lock::Done;
-
-// Nothing was done since the last deed.
-struct NoDeed;
-
-impl Done<SeatDeed> for NoDeed {
-    ghost done = { [] };
-}
 
 /// Takes the seat for all further calls, if no other thread has it.
 pub fn try_lock(lock: &SeatLock, pass: &mut SeatPass) -> Result<(), Busy>

@@ -3,7 +3,7 @@ use Rattle.told_lock.specs.Deeds.{named}
 use Rattle.told_lock.specs.Rights.{name_of}
 use Rattle.like_shared.specs.declared.service.ServiceKeeper.{ServiceKeeper}
 use Rattle.like_shared.specs.Shared.{driver_log, driver_told, seats_told, with_logs}
-use Rattle.like_shared.proofs.Desks.{as-taken, as-written}
+use Rattle.like_shared.proofs.Desks.{as-held, as-written}
 use Rattle.like_shared.proofs.hub.Hub.take_client.Goals as goal
 
 pub returns-clause-parked : goal.returns-clause-parked
@@ -13,7 +13,7 @@ returns-clause-parked c =
     let client = c.args.client in
     let it = c.requires.card in
     let at = c.value_mut.ensures.value in
-    let same = as-taken desk card at.0 c.value_mut.result.now it.0 at.1 it.1 in
+    let same = as-held desk card at.0 c.value_mut.result.now it.0 it.0 at.1 it.1 in
     let l = c.take_back.new.keeper in
     let told = c.take_back.ensures in (
       it.0,
