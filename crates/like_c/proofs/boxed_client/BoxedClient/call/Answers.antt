@@ -1,6 +1,6 @@
 use Rattle.std.proofs.Common.{ap, refl, ◌∙◌}
 use Rattle.like_shared.specs.declared.hub.Hub.{Hub}
-use Rattle.like_c.specs.Clients.{busy, made, no_seat}
+use Rattle.like_c.specs.Clients.{busy, made}
 use Rattle.like_c.proofs.Owners.{client-at}
 use Rattle.like_c.proofs.boxed_client.BoxedClient.call.Goals as goal
 
