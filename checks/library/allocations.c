@@ -7,6 +7,8 @@
  *     Each such opening must answer that it is out of memory, leave the driver empty, and give back what it took.
  *   - The same of a shared service, of a client, and of likes_shared_close, which takes memory meanwhile. Once the
  *     clients are closed, and the service is closed or freed, in any order, all is given back.
+ *   - While a client is opened and gets no memory, no other can be closed. So it isn't lost, and the service can be
+ *     closed.
  *   - likes_service_stop writes its counts also where it gets no memory.
  *
  * It replaces malloc and its kin, and calls those of the GNU C library by their other names. */
@@ -25,9 +27,15 @@ void __libc_free(void *block);
 /* Which allocations are refused, counted from 1; how many there were; and how many blocks are there now. */
 static size_t first, last, made, blocks;
 
+/* A client that is closed when an allocation is refused, and what that answers. */
+static likes_client *closed;
+static uint32_t closing;
+
 static bool is_refused(void) {
     made++;
     bool is = first <= made && made <= last;
+    if (is && closed != NULL)
+        closing = likes_client_close(closed);
     errno = is ? ENOMEM : errno;
     return is;
 }
@@ -406,11 +414,25 @@ static void call_client(likes_client *client) {
     IS(likes_client_last_counts(client, 0, counts, PAGES), LIKES_NOT_ENDED);
 }
 
+/* Each allocation of one more client is refused. This one can't be closed meanwhile: the other is at the desk. */
+static void refuse_beside(likes_client *client) {
+    likes_client more = {0};
+    open_client(&more, 0, 0);
+    size_t of_client = made;
+    FREES(likes_client_close(&more));
+    closed = client;
+    for (size_t number = 1; number <= of_client; number++)
+        if (open_client(&more, number, number) != LIKES_NO_MEMORY || closing != LIKES_BUSY)
+            fail(__LINE__, "likes_client_open", "has the wrong answer, or lets another client be closed");
+    closed = NULL;
+}
+
 /* A shared service is used by two clients, and closed, or freed before its last client is closed. */
 static void use_shared(bool is_closed) {
     likes_client one = {0}, two = {0};
     if (share(0, 0) != LIKES_OK || open_client(&one, 0, 0) != LIKES_OK || open_client(&two, 0, 0) != LIKES_OK)
         fail(__LINE__, "likes_shared_open", "has failed");
+    refuse_beside(&one);
     call_client(&one);
     call_client(&two);
     FREES(likes_client_close(&one));

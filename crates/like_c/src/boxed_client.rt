@@ -1,16 +1,16 @@
 //! A thread's client of a shared service, as it lies behind a handle.
 ghost use Rattle.std.specs.Arc.{arc_value};
-ghost use Rattle.std.specs.Prelude.{◌≡◌, ◌++◌, ◌+◌, ◌≤◌, ◌↔◌, [], ◌∷◌, IfErr, IfOk, IsSome, IsTrue, MatchOption, MatchResult, length};
+ghost use Rattle.std.specs.Prelude.{◌≡◌, ◌++◌, ◌+◌, ◌≤◌, ◌↔◌, [], ◌∷◌, IfErr, IfOk, IsSome, IsTrue, MatchOption, MatchResult, false, length, replicate};
 ghost use Rattle.told_lock.specs.Rights.{IsIdle, log_of};
 ghost use Rattle.like_shared.specs.declared.desk.DeskDeed.TheVariants.{Parked};
 ghost use Rattle.like_shared.specs.Hubs.{IsAtDesk};
-ghost use Rattle.like_shared.specs.Shared.{IsClient, pages_of};
+ghost use Rattle.like_shared.specs.Shared.{IsClient, driver_log, held_by, pages_of, seat_logs, seats_of};
 ghost use Rattle.like_c.specs.Cards.{IsCard};
 
 use crate::opened::{APART, Apart};
 use crate::status;
 use like_shared::{Busy, Card, Client, DriverCall, Hub, SeatCall, SeatRow};
-use std::alloc::Global;
+use std::alloc::{AllocError, Global};
 use std::sync::Arc;
 
 /// A client, with the hub of its service, and its card for the hub's desk.
@@ -29,30 +29,65 @@ impl BoxedClient {
     ghost use Rattle.like_c.specs.Clients.{Calls, CallsDriver, Locks, Unlocks, hub_of};
     ghost use Rattle.like_c.specs.Sharing.{IsNoClient};
 
-    /// A client in a box. If there is no memory, it is parked, and a status says so.
+    /// A new client in a box, made by this card at the desk. The box doesn't have the card yet. `Err`: a status says why
+    /// not, and no client is lost.
     pub(crate) fn new(
         alloc: Global,
         hub: Arc<Hub, Global>,
+        card: &mut Card,
+    ) -> Result<Box<BoxedClient, Global>, u32>
+        requires { IsIdle (arc_value hub).desk card.old }
+        ensures left { IsIdle (arc_value hub).desk card.new }
+        ensures hub { IfOk result (λ b. hub_of b.value ≡ arc_value hub) }
+        ensures logs { IfOk result
+            (λ b. seat_logs b.value.client ≡ replicate (seats_of (arc_value hub).service) []) }
+        ensures driver_log { IfOk result (λ b. driver_log b.value.client ≡ []) }
+        ensures held { IfOk result
+            (λ b. held_by b.value.client ≡ replicate (seats_of (arc_value hub).service) false) }
+        ensures refused { IfErr result IsNoClient }
+    {
+        if !hub.enter(card) {
+            return Err(status::BUSY);
+        }
+        match hub.make_there(alloc, card) {
+            Ok(client) => BoxedClient::boxed(alloc, hub, client, card),
+            Err(AllocError) => {
+                hub.leave(card);
+                Err(status::NO_MEMORY)
+            }
+        }
+    }
+
+    // The client in a box. The card is at the desk meanwhile, and then leaves it. If there is no memory, the client is
+    // parked, and a status says so.
+    fn boxed(
+        alloc: Global,
+        hub: Arc<Hub, Global>,
         client: Client,
-        card: Card,
+        card: &mut Card,
     ) -> Result<Box<BoxedClient, Global>, u32>
         requires client { IsClient (arc_value hub).service client }
-        requires card { IsIdle (arc_value hub).desk card }
+        requires card { IsAtDesk (arc_value hub) card.old }
+        ensures left { IsIdle (arc_value hub).desk card.new }
+        ensures parked { MatchResult result (λ _. log_of card.new ≡ log_of card.old)
+            (λ _. log_of card.new ≡ log_of card.old ++ Parked client ∷ []) }
         ensures hub { IfOk result (λ b. hub_of b.value ≡ arc_value hub) }
         ensures client { IfOk result (λ b. b.value.client ≡ client) }
-        ensures card { IfOk result (λ b. IsSome b.value.card) }
         ensures refused { IfErr result IsNoClient }
     {
         let it = BoxedClient {
             hub,
             client,
-            card: Some(card),
+            card: None,
             apart: APART,
         };
         match Box::new(alloc, it) {
-            Ok(boxed) => Ok(boxed),
+            Ok(boxed) => {
+                boxed.hub.leave(card);
+                Ok(boxed)
+            }
             Err(failed) => {
-                failed.value.try_park();
+                failed.value.park(card);
                 Err(status::NO_MEMORY)
             }
         }

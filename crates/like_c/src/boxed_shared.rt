@@ -12,7 +12,7 @@ use crate::opened::{APART, Apart, BoxedPhase, boxed_phase, check, in_box, openin
 use crate::rows::Options;
 use crate::status;
 use like_live::OpenError;
-use like_shared::{Cards, Hub, LastCountsCall, NoClient};
+use like_shared::{Cards, Hub, LastCountsCall};
 use std::alloc::Global;
 use std::sync::Arc;
 
@@ -104,11 +104,9 @@ impl BoxedShared {
             return Err(status::NO_MEMORY);
         };
         let mut card = self.hub.new_card(&mut self.cards);
-        match self.hub.new_client(alloc, &mut card) {
-            Ok(client) => BoxedClient::new(alloc, hub, client, card),
-            Err(NoClient::Busy) => Err(status::BUSY),
-            Err(NoClient::Memory) => Err(status::NO_MEMORY),
-        }
+        let mut client = BoxedClient::new(alloc, hub, &mut card)?;
+        client.card = Some(card);
+        Ok(client)
     }
 
     /// Whether its service can end, since no client is open, and all seats are gone. `Err`: a status says why not.

@@ -118,12 +118,10 @@ fn one_is_at_the_desk(rt: HostRuntime) -> Result<(), Fail> {
     assert!(rt; hub.pages() == 2 && hub.has_pages(1, 1) && !hub.has_pages(1, 2));
     let mut card = hub.new_card(&mut cards);
     let mut other = hub.new_card(&mut cards);
-    let Ok(client) = hub.new_client(alloc, &mut card) else {
-        return Err(Fail::new("no client"));
-    };
     if !hub.enter(&mut card) {
         return Err(Fail::new("the desk is taken"));
     }
+    let client = hub.make_there(alloc, &mut card)?;
     assert!(rt; matches!(hub.new_client(alloc, &mut other), Err(NoClient::Busy)));
     hub.park_there(&mut card, client);
     assert!(rt; matches!(hub.new_client(alloc, &mut other), Ok(_)));
