@@ -29,8 +29,8 @@ impl BoxedClient {
     ghost use Rattle.like_c.specs.Clients.{Calls, CallsDriver, Locks, Unlocks, hub_of};
     ghost use Rattle.like_c.specs.Sharing.{IsNoClient};
 
-    /// A new client in a box, made by this card at the desk. The box doesn't have the card yet. `Err`: a status says why
-    /// not, and no client is lost.
+    /// A new client in a box, made by this card at the desk. The box doesn't have the card yet. `Err`: a status says
+    /// why not, and no client is lost.
     pub(crate) fn new(
         alloc: Global,
         hub: Arc<Hub, Global>,

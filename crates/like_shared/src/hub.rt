@@ -130,7 +130,7 @@ impl Hub {
         }
     }
 
-    /// Another client, made by a card that is at the desk and stays there, so that the client can be parked if there is no
+    /// Another client, made by a card that is at the desk and stays there. So the client can be parked if there is no
     /// memory for what goes with it. `Err`: there is no memory, or 2^64 - 1 clients are out.
     pub fn make_there(&self, alloc: Global, card: &mut Card) -> Result<Client, AllocError>
         requires { IsAtDesk self.now card.old }
