@@ -241,6 +241,7 @@ static void wrong_tags(void) {
     static const uint64_t tags[] = {UINT64_C(1) << 63, 7, UINT64_MAX, UINT64_MAX - 1, (UINT64_C(1) << 63) - 1};
     enum { TAGS = sizeof tags / sizeof *tags };
     likes_request row[TAGS], like = {.tag = UINT64_MAX, .page = 1}; /* a like has no tag */
+    likes_request none = {.tag = UINT64_MAX, .op = LIKES_LOOK, .reserved = 1};
     likes_answer answers[TAGS];
     likes_found found;
     uint64_t totals[2], taken = 0;
@@ -248,6 +249,8 @@ static void wrong_tags(void) {
     for (size_t i = 0; i < TAGS; i++)
         row[i] = (likes_request){.tag = tags[i], .op = LIKES_LOOK};
     likes_seat *seat = likes_service_lock(service, 0);
+    IS(likes_service_run(service, 0, &none, 1, answers), 1);
+    IS(answers[0].status, LIKES_UNKNOWN_OP);
     for (int times = 0; times < 100; times++) {
         uint64_t waits = 0;
         IS(likes_service_run(service, 0, row, TAGS, answers), TAGS);

@@ -21,13 +21,12 @@
 
 /* The line of the user's last like is fetched while the call takes the seat's lock: to give that back waits for it. */
 uint32_t likes_service_like(likes_service *service, uint32_t user, uint32_t page) {
-    const likes_pair like = {user, page};
     inner_member *member;
     inner_place *place;
     uint32_t status = inner_begin(service, user, false, &member, &place);
     if (status != LIKES_OK)
         return status;
-    inner_fetch(place->lasts, service->inverse, &like, 1);
+    inner_fetch(place->lasts, service->inverse, user);
     MAKE(status, INNER_NEVER, likes_client_like(&member->client, place->number, user, page));
     inner_add(&member->likes, status == LIKES_LIKED);
     return status;

@@ -61,32 +61,63 @@ uint32_t inner_look(inner_member *member, inner_place *place, const likes_reques
     return status == LIKES_GLIMPSED ? inner_refuse(answer, LIKES_NO_ROOM) : status;
 }
 
-/* How many requests come before a look that has a wrong tag, or for which the seat may have no room. */
-static size_t part_of(const inner_place *place, uint32_t room, const likes_request *requests, size_t length) {
-    size_t part = 0, most = length < INNER_ROW ? length : INNER_ROW;
-    for (uint32_t hosts = place->hosts; part < most; part++)
-        if (requests[part].op == LIKES_LOOK && requests[part].reserved == 0 &&
-            (requests[part].tag >= INNER_TAGS || hosts++ == room))
+/* The next requests of a row, up to a look that has a wrong tag, or for which the seat may have no room. */
+typedef struct part {
+    size_t length;
+    uint32_t others; /* 0: they are likes alone */
+    likes_pair likes[INNER_ROW];
+} part;
+
+static void next_part(const inner_place *place, const likes_request *requests, size_t length, part *next) {
+    const likes_service *service = place->service;
+    size_t i = 0, most = length < INNER_ROW ? length : INNER_ROW;
+    uint32_t hosts = place->hosts, others = 0;
+    for (; i < most; i++) {
+        const likes_request *it = &requests[i];
+        bool is_look = it->op == LIKES_LOOK && it->reserved == 0;
+        if (is_look && (it->tag >= INNER_TAGS || hosts++ == service->room))
             break;
-    return part;
+        others |= it->op | it->reserved;
+        next->likes[i] = (likes_pair){it->user, it->page};
+    }
+    next->length = i;
+    next->others = others;
+}
+
+/* Counts likes, up to the first that isn't counted: how many, and a status that says why no more. */
+static size_t count_likes(const inner_trial *it, const part *next, likes_answer *answers, uint32_t *status) {
+    const likes_answer liked = {.status = LIKES_LIKED};
+    size_t done = 0;
+    *status = likes_client_like_row(&it->member->client, it->place->number, next->likes, next->length, &done);
+    for (size_t i = 0; i < done; i++)
+        answers[i] = liked;
+    inner_add(&it->member->likes, done);
+    return done;
 }
 
 /* Runs a row of requests, or answers a look. The number of those done, and a status that tells if the next one is too
  * early. */
 static size_t run_part(const inner_trial *it, const likes_request *requests, size_t length, likes_answer *answers,
                        uint32_t *status) {
-    size_t likes = 0, part = part_of(it->place, it->member->service->room, requests, length);
-    if (part == 0) {
+    part next;
+    size_t likes = 0;
+    next_part(it->place, requests, length, &next);
+    if (next.length == 0) {
         *status = inner_look(it->member, it->place, requests, answers);
         return *status != LIKES_BETWEEN && *status != LIKES_NO_ROOM;
     }
-    size_t done = likes_client_run(&it->member->client, it->place->number, requests, part, answers, part);
+    if (next.others == 0 && (likes = count_likes(it, &next, answers, status)) > 0)
+        return likes;
+    for (size_t i = 0; i < next.length; i++)
+        inner_fetch(it->place->lasts, it->member->service->inverse, next.likes[i].user);
+    size_t done =
+        likes_client_run(&it->member->client, it->place->number, requests, next.length, answers, next.length);
     for (size_t i = 0; i < done; i++) {
         likes += answers[i].status == LIKES_LIKED;
         it->place->hosts += answers[i].status == LIKES_WAITS;
     }
     inner_add(&it->member->likes, likes);
-    *status = done < part ? answers[done].status : (uint32_t)LIKES_OK;
+    *status = done < next.length ? answers[done].status : (uint32_t)LIKES_OK;
     return done;
 }
 

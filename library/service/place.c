@@ -39,14 +39,20 @@ static void end_wait(const likes_found *found) {
         inner_futex_wake(&wait->state, 1);
 }
 
-/* Hands out what was found, and keeps the host's, which are no more than the seat has room for. */
+/* Keeps a found look of the host's in the ring: they are no more than the seat has room for. */
+static void keep(inner_place *place, const likes_found *found) {
+    uint32_t room = place->service->room, at = place->first + place->length++;
+    place->found[at < room ? at : at - room] = *found;
+}
+
+/* Hands out what was found, and keeps the host's. */
 static void hand_out(inner_member *member, inner_place *place) {
     likes_found found;
     while (likes_client_take_found(&member->client, place->number, &found) == LIKES_OK) {
         if (found.tag >= INNER_TAGS)
             end_wait(&found);
         else
-            place->found[(place->first + place->length++) % member->service->room] = found;
+            keep(place, &found);
     }
 }
 
@@ -56,7 +62,7 @@ bool inner_take_found(inner_member *member, inner_place *place, likes_found *fou
     if (place->length == 0)
         return false;
     *found = place->found[place->first];
-    place->first = (place->first + 1) % member->service->room;
+    place->first = place->first + 1 < place->service->room ? place->first + 1 : 0;
     place->length--;
     place->hosts--;
     return true;

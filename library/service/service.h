@@ -124,19 +124,17 @@ static inline size_t inner_remainder(uint32_t number, uint64_t inverse, uint64_t
     return (size_t)(((wide)(inverse * number) * divisor) >> 64);
 }
 
-/* Has the processor fetch the lines of a cache that have the last likes of these users, all at once. (A processor that
- * can't does nothing.) User u is in place u / seats. */
-static inline void inner_fetch(uintptr_t lasts, uint64_t inverse, const likes_pair *likes, size_t many) {
+/* Has the processor fetch the line of a cache that has a user's last like, in place u / seats of them. (A processor that
+ * can't does nothing, nor does any where there is no such user.) */
+static inline void inner_fetch(uintptr_t lasts, uint64_t inverse, uint32_t user) {
     __extension__ typedef unsigned __int128 wide;
-    for (size_t i = 0; i < many; i++) {
-        uint64_t user = likes[i].user, place = inverse == 0 ? user : (uint64_t)(((wide)inverse * user) >> 64);
-        const char *at = (const char *)(lasts + 4 * place);
+    uint64_t place = inverse == 0 ? user : (uint64_t)(((wide)inverse * user) >> 64);
+    const char *at = (const char *)(lasts + 4 * place);
 #if defined(__x86_64__)
-        __asm__ volatile("prefetchw %0" ::"m"(*at));
+    __asm__ volatile("prefetchw %0" ::"m"(*at));
 #else
-        __builtin_prefetch(at, 1);
+    __builtin_prefetch(at, 1);
 #endif
-    }
 }
 
 /* Adds to a number that one thread writes, and others read. */

@@ -33,7 +33,8 @@ static uint32_t hand_over(likes_writer *writer, size_t seat) {
         return status;
     status = INNER_UNTRIED;
     inner_start(&trial, member, place, INNER_NEVER);
-    inner_fetch(place->lasts, writer->service->inverse, row, length);
+    for (size_t i = 0; i < length; i++)
+        inner_fetch(place->lasts, writer->service->inverse, row[i].user);
     for (; inner_again(&trial, &status); done += counted)
         status = likes_client_like_row(&member->client, place->number, row + done, length - done, &counted);
     inner_add(&member->likes, done);
