@@ -102,9 +102,8 @@ HELD uint32_t held_look(const likes_seat *seat, uint32_t user, uint32_t page, ui
     inner_place *place = begin(seat, &member);
     if (place == NULL)
         return inner_refuse(answer, LIKES_NOT_LOCKED);
-    uint32_t status = inner_look(member, place, &request, answer);
-    if (status == LIKES_WAITS)
-        inner_turns(member);
+    uint32_t hosts = place->hosts, status = inner_look(member, place, &request, answer);
+    inner_looks_wait(member, place, hosts);
     return end(member, place, status);
 }
 

@@ -49,7 +49,7 @@ void likes_service_unlock(likes_service *service, uint32_t number) {
 }
 
 /* A look of the host's. No more of them wait, or are found and not taken, than the seat has room for. What isn't split, a
- * glance shows also then. Looks that wait may take half of the room, which ends the phase: its caller makes a turn. */
+ * glance shows also then. Its caller sees whether those that wait take half of the room (inner_looks_wait). */
 uint32_t inner_look(inner_member *member, inner_place *place, const likes_request *request, likes_answer *answer) {
     uint32_t user = request->user, page = request->page;
     if (request->tag >= INNER_TAGS)
@@ -136,8 +136,7 @@ size_t inner_run(inner_member *member, inner_place *place, const likes_request *
                 status = LIKES_GLIMPSED;
         } while (waits && inner_again(&it, &status));
     }
-    if (place->hosts > hosts)
-        inner_turns(member);
+    inner_looks_wait(member, place, hosts);
     return done;
 }
 

@@ -280,6 +280,14 @@ bool inner_await_phase(inner_member *member, uint64_t phase, uint64_t until);
  * and gives the first answer. Where another thread makes turns, it leaves a wish: LIKES_NOT_ALL_IN. */
 uint32_t inner_turns(inner_member *member);
 
+/* Where looks of the host's wait that didn't before: makes turns for one in 16 of them, and for each once they take half of
+ * the room, which ends the phase. */
+static inline void inner_looks_wait(inner_member *member, const inner_place *place, uint32_t before) {
+    uint32_t now = place->hosts;
+    if (now > before && (now / 16 > before / 16 || 2 * now >= place->service->room))
+        inner_turns(member);
+}
+
 /* With `turning` locked: makes one turn; sleeps until there is a wish, or until a time; makes a turn due at once, and
  * lets the next two rounds count as some with calls. The last wakes threads that wait for a phase, unlocks it, makes
  * turns, and calls the driver's thread. */

@@ -555,6 +555,7 @@ const explore_case explore_cases[] = {
     {"counts", roomy, {take_counts, like_1}, 2, false, NULL},
     {"counts-two", roomy, {take_counts, take_counts}, 2, false, NULL},
     {"counts-row", roomy, {take_counts, row}, 2, false, NULL},
+    {"counts-drive", roomy, {take_counts, drive}, 2, false, NULL},
     {"snapshot", roomy, {snapshot, like_1}, 2, false, NULL},
     {"snapshot-row", roomy, {snapshot, row}, 2, false, NULL},
     {"snapshot-between", roomy, {snapshot_or_none, hold_and_try}, 0, false, NULL},
