@@ -464,7 +464,7 @@ static void rows_of_looks(void) {
     uint64_t random = 1, tag = 0, likes = 0, asked = 0, taken = 0, full = 0;
     start(100);
     likes_seat *seat = likes_service_lock(service, 1);
-    for (int n = 0; n < ROWS || taken < asked || full == 0; n++) {
+    for (int n = 0; n < ROWS || taken < asked; n++) {
         size_t length = n < ROWS ? below(&random, LONGEST + 1) : 0;
         for (size_t i = 0; i < length; i++) {
             uint32_t kind = (uint32_t)below(&random, 8);
@@ -489,6 +489,7 @@ static void rows_of_looks(void) {
             while (likes_service_take_found(service, 1, &found))
                 IS(found.tag, waiting[taken++]);
     }
+    hold(full > 0, "the room was never full");
     likes_service_unlock(service, 1);
     stop(likes);
 }

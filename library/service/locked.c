@@ -123,14 +123,14 @@ static size_t run_part(const inner_trial *it, const likes_request *requests, siz
 
 size_t inner_run(inner_member *member, inner_place *place, const likes_request *requests, size_t length,
                  likes_answer *answers, bool waits) {
-    size_t done = 0, part = 1;
+    size_t done = 0, many = 1;
     uint32_t status, hosts = place->hosts;
-    while (done < length && part > 0) {
+    while (done < length && many > 0) {
         inner_trial it;
         inner_start(&it, member, place, INNER_NEVER);
         do {
-            part = run_part(&it, requests + done, length - done, answers + done, &status);
-            done += part;
+            many = run_part(&it, requests + done, length - done, answers + done, &status);
+            done += many;
             /* Where the host's own looks fill the seat, no phase makes room. */
             if (status == LIKES_NO_ROOM && place->hosts == member->service->room)
                 status = LIKES_GLIMPSED;

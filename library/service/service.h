@@ -40,7 +40,7 @@ enum { INNER_WORK = 1, INNER_ASLEEP = 2 };
 /* A service's `wished`, or 0: a turn is wanted; the thread that makes turns sleeps until one is. */
 enum { INNER_WISHED = 1, INNER_WATCHED = 2 };
 
-/* The most likes of a row. */
+/* The most likes of a writer's row, and requests of a part of a host's. */
 enum { INNER_ROW = 64 };
 
 /* Tags of a host's looks are below these, which are the service's own. */
@@ -280,8 +280,8 @@ bool inner_await_phase(inner_member *member, uint64_t phase, uint64_t until);
  * and gives the first answer. Where another thread makes turns, it leaves a wish: LIKES_NOT_ALL_IN. */
 uint32_t inner_turns(inner_member *member);
 
-/* Where looks of the host's wait that didn't before: makes turns for one in 16 of them, and for each once they take half of
- * the room, which ends the phase. */
+/* After looks of the host's that may wait: makes turns where they pass a multiple of 16, or take half of the room, which
+ * ends the phase if they all wait. Other threads' looks at the seat are not among them: those make turns of their own. */
 static inline void inner_looks_wait(inner_member *member, const inner_place *place, uint32_t before) {
     uint32_t now = place->hosts;
     if (now > before && (now / 16 > before / 16 || 2 * now >= place->service->room))

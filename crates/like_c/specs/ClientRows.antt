@@ -1,4 +1,4 @@
--- Rows of requests that a client makes under one taking of a seat's lock.
+-- Rows of requests that a client makes.
 use Rattle.std.specs.Prelude.{◌≡◌, ℕ, List, [], ◌∷◌, Result, Ok, Err, Option}
 use Rattle.like_shared.specs.Rows.{AreAnswered}
 use Rattle.like_c.specs.declared.boxed_client.BoxedClient.{BoxedClient}

@@ -1,7 +1,7 @@
 -- What a client's calls do, and what likes.h tells of them.
 use denote.RawPtr.{Ptr}
 use Rattle.std.specs.Arc.{arc_value}
-use Rattle.std.specs.Prelude.{◌≡◌, ◌≢◌, ℕ, ◌+◌, ◌≤◌, Bool, true, false, drop, length, slice_set, List, [], ◌∷◌, Option, Some, None, Result, Ok, Err, ⊤}
+use Rattle.std.specs.Prelude.{◌≡◌, ◌≢◌, ℕ, ◌+◌, ◌<◌, ◌≤◌, Bool, true, false, drop, length, slice_set, List, [], ◌∷◌, Option, Some, None, Result, Ok, Err, ⊤}
 use Rattle.like_live.specs.declared.answer.TurnAnswer.{TurnAnswer}
 use Rattle.like_live.specs.declared.asked.Found.{Found}
 use Rattle.like_live.specs.declared.driver_answer.DriverAnswer.{DriverAnswer}
@@ -42,10 +42,10 @@ pub record KeepsHub (b c : BoxedClient) : Type 0 where
 -- and its log is as before; or there is no such seat, and nothing is done
 pub data Calls {A : Type 0} (seat : ℕ) (deeds : A → List SeatDeed) (told : Result A ℕ) (b c : BoxedClient) : Type 0
   where
-    made : (answer : A) → told ≡ Ok answer → AreLogged b.client seat deeds (Ok answer) c.client → KeepsHub b c
-        → Calls seat deeds told b c
-    busy : (it : Busy) → told ≡ Err status.busy → AreLogged b.client seat deeds (Err it) c.client → KeepsHub b c
-        → Calls seat deeds told b c
+    made : (answer : A) → seat < seats_by b → told ≡ Ok answer → AreLogged b.client seat deeds (Ok answer) c.client
+        → KeepsHub b c → Calls seat deeds told b c
+    busy : (it : Busy) → seat < seats_by b → told ≡ Err status.busy → AreLogged b.client seat deeds (Err it) c.client
+        → KeepsHub b c → Calls seat deeds told b c
     no_seat : seats_by b ≤ seat → told ≡ Err status.unknown_seat → c ≡ b → Calls seat deeds told b c
 
 -- the same of a call of the driver
@@ -57,16 +57,16 @@ pub data CallsDriver {A : Type 0} (one : A → DriverDeed) (told : Result A ℕ)
 
 -- a seat is locked, and held from now on; or another thread has it; or there is no such seat
 pub data Locks (seat : ℕ) (told : Result ⊤ ℕ) (b c : BoxedClient) : Type 0 where
-  locks : told ≡ Ok tt → held_by c.client ≡ slice_set (held_by b.client) seat true → HasSameLogs b.client c.client
-      → KeepsHub b c → Locks seat told b c
-  lock_busy : told ≡ Err status.busy → held_by c.client ≡ held_by b.client → HasSameLogs b.client c.client
-      → KeepsHub b c → Locks seat told b c
+  locks : seat < seats_by b → told ≡ Ok tt → held_by c.client ≡ slice_set (held_by b.client) seat true
+      → HasSameLogs b.client c.client → KeepsHub b c → Locks seat told b c
+  lock_busy : seat < seats_by b → told ≡ Err status.busy → held_by c.client ≡ held_by b.client
+      → HasSameLogs b.client c.client → KeepsHub b c → Locks seat told b c
   lock_none : seats_by b ≤ seat → told ≡ Err status.unknown_seat → c ≡ b → Locks seat told b c
 
 -- a seat is unlocked, and not held from now on; or there is no such seat
 pub data Unlocks (seat : ℕ) (told : Result ⊤ ℕ) (b c : BoxedClient) : Type 0 where
-  unlocks : told ≡ Ok tt → held_by c.client ≡ slice_set (held_by b.client) seat false → HasSameLogs b.client c.client
-      → KeepsHub b c → Unlocks seat told b c
+  unlocks : seat < seats_by b → told ≡ Ok tt → held_by c.client ≡ slice_set (held_by b.client) seat false
+      → HasSameLogs b.client c.client → KeepsHub b c → Unlocks seat told b c
   unlock_none : seats_by b ≤ seat → told ≡ Err status.unknown_seat → c ≡ b → Unlocks seat told b c
 
 -- one call of a seat, by a handle: of an empty one this is so; of any other the call is made, and its answer told

@@ -21,7 +21,7 @@ use Rattle.like_c.specs.declared.rows.RequestRow.{RequestRow}
 use Rattle.like_c.specs.Rows.{call_of}
 use Rattle.like_c.specs.Status as status
 
--- the verdict that has this status
+-- the verdict that has this status; of any other, `Accepted`
 abbrev pub verdict_in : ℕ → Verdict
 verdict_in s =
     if s == status.unknown_user then UnknownUser

@@ -30,7 +30,7 @@ impl BoxedClient {
     ghost use Rattle.like_c.specs.Sharing.{IsNoClient};
 
     /// A new client in a box, made by this card at the desk. The box doesn't have the card yet. `Err`: a status says why
-    /// not, and no client is lost.
+    /// not. A client that gets no box is parked.
     pub(crate) fn new(
         alloc: Global,
         hub: Arc<Hub, Global>,

@@ -1,5 +1,6 @@
-use Rattle.std.proofs.Common.{ap, refl, ◌∙◌}
+use Rattle.std.proofs.Common.{ap, arith, refl, ◌∙◌}
 use Rattle.like_shared.specs.declared.hub.Hub.{Hub}
+use Rattle.like_shared.specs.Shared.{seats_of}
 use Rattle.like_c.specs.Clients.{busy, made}
 use Rattle.like_c.proofs.Owners.{client-at}
 use Rattle.like_c.proofs.boxed_client.BoxedClient.call.Goals as goal
@@ -9,7 +10,11 @@ call-requires-clause-client g c =
     client-at c.args.self.now _ (c.service-2.ensures ∙ ap (λ (h : Hub). h.service) c.deref-2.ensures)
 
 pub returns-in-Ok : goal.returns-in-Ok
-returns-in-Ok g c = made c.in-Ok.answer refl c.in-Ok.ensures.log (record { hub = refl; card = refl })
+returns-in-Ok g c = made c.in-Ok.answer
+    (omega (arith, c.if-seat-seat_count.false, c.seat_count.ensures ∙ ap seats_of (c.service.ensures ∙ ap (λ (h : Hub). h.service) c.deref.ensures)))
+    refl c.in-Ok.ensures.log (record { hub = refl; card = refl })
 
 pub returns-in-Err : goal.returns-in-Err
-returns-in-Err g c = busy c.in-Err.field-0 refl c.in-Err.ensures.log (record { hub = refl; card = refl })
+returns-in-Err g c = busy c.in-Err.field-0
+    (omega (arith, c.if-seat-seat_count.false, c.seat_count.ensures ∙ ap seats_of (c.service.ensures ∙ ap (λ (h : Hub). h.service) c.deref.ensures)))
+    refl c.in-Err.ensures.log (record { hub = refl; card = refl })

@@ -1,5 +1,6 @@
-use Rattle.std.proofs.Common.{ap, refl, ◌∙◌}
+use Rattle.std.proofs.Common.{ap, arith, refl, ◌∙◌}
 use Rattle.like_shared.specs.declared.hub.Hub.{Hub}
+use Rattle.like_shared.specs.Shared.{seats_of}
 use Rattle.like_c.specs.Clients.{unlocks}
 use Rattle.like_c.proofs.Owners.{client-at}
 use Rattle.like_c.proofs.boxed_client.BoxedClient.unlock.Goals as goal
@@ -9,4 +10,6 @@ unlock-requires-clause-client c =
     client-at c.args.self.now _ (c.service-2.ensures ∙ ap (λ (h : Hub). h.service) c.deref-2.ensures)
 
 pub returns : goal.returns
-returns c = unlocks refl c.unlock.ensures.held c.unlock.ensures.logs (record { hub = refl; card = refl })
+returns c = unlocks
+    (omega (arith, c.if-seat-seat_count.false, c.seat_count.ensures ∙ ap seats_of (c.service.ensures ∙ ap (λ (h : Hub). h.service) c.deref.ensures)))
+    refl c.unlock.ensures.held c.unlock.ensures.logs (record { hub = refl; card = refl })
