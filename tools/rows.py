@@ -4,6 +4,8 @@ import contextlib
 import csv
 import importlib
 import io
+import itertools
+import operator
 import os
 import re
 import shutil
@@ -230,13 +232,30 @@ def records_in(file, name):
 
 
 def plain_in(file, name):
-    """The records of an open CSV file, without their lines."""
+    """The records of an open CSV file, without their lines. Up to the first block with a quote or an odd end of a line, lines
+    are split at commas, which takes two thirds of a reader's time."""
+    text = io.TextIOWrapper(file, newline="", encoding="utf-8-sig", errors="surrogateescape")
+    split, left, lines = operator.methodcaller("split", ","), "", 0
+    while block := text.read(BLOCK):
+        block = left + block
+        if "\n" not in block or any(sign in block for sign in '"\r\0'):
+            yield from quoted_in(itertools.chain(io.StringIO(block + text.readline(), newline=""), text), name, lines)
+            return
+        whole, _, left = block.rpartition("\n")
+        lines += whole.count("\n") + 1
+        yield from map(split, filter(None, whole.split("\n")))
+    if left:
+        yield split(left)
+
+
+def quoted_in(lines, name, before):
+    """The records of lines that may have quotes, with so many lines before them."""
     csv.field_size_limit(sys.maxsize)
-    reader = csv.reader(io.TextIOWrapper(file, newline="", encoding="utf-8-sig", errors="surrogateescape"))
+    reader = csv.reader(lines)
     try:
         yield from filter(None, reader)
     except csv.Error as error:
-        raise fault(name, reader.line_num, error) from None
+        raise fault(name, before + reader.line_num, error) from None
 
 
 def records(name):
