@@ -24,7 +24,7 @@ IsPutOff (answer.Like a) = a ≡ liked.Between
 IsPutOff (answer.Look a) = (a ≡ looked.Between) ⊎ (a ≡ looked.NoRoom)
 IsPutOff (answer.Glance a) = a ≡ glanced.Between
 
--- a last like that is told is of a page
+-- no last like that is told has the number that stands for no page
 abbrev pub TellsPage : Answer → Type 0
 TellsPage (answer.Look (looked.Seen shown)) = shown.last ≢ Some no_page
 TellsPage (answer.Glance (glanced.Seen shown)) = shown.last ≢ Some no_page

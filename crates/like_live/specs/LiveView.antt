@@ -61,8 +61,9 @@ abbrev pub RanNext : Found → Type 0
 RanNext f = f.phase ≡ f.asked.phase + 1
 
 -- what is true of every live seat: its board is a service's; its users are those whose number modulo the number of
--- seats is its own, and their last likes are of pages that there are; nothing waits unless it runs or has answered a split phase, and what waits was asked in that phase;
--- what was found ran in the next phase; and no more looks wait or were found than there is room for
+-- seats is its own, and their last likes are of pages that there are; nothing waits unless it runs or has answered a
+-- split phase, and what waits was asked in that phase; what was found ran in the next phase; and no more looks wait or
+-- were found than there is room for
 pub record IsLive (v : LiveView) : Type 0 where
   pub station : IsStation v.station
   pub limits : v.station.post.opening.limits ≡ service_limits

@@ -46,8 +46,8 @@ abbrev pub IsRowPutOff : {T : Type 0} → (Answer → T) → Result Call T → T
 IsRowPutOff tells (Ok c) told = (a : Answer) × IsAnswerTo c a × IsPutOff a × (told ≡ tells a)
 IsRowPutOff tells (Err none) told = ⊥
 
--- so many rows were done. The next one was put off, if there is one. Later answers are as they were, and so are those
--- that have no row
+-- so many rows were done. The next one was put off, if there is one with a place for its answer. Later answers are as
+-- they were, and so are those that have no row
 pub record AreAnswered {R T : Type 0} (asks : R → Result Call T) (tells : Answer → T) (rows : List R)
     (old answers : List T) (done : ℕ) : Type 0 where
   pub rows_few : done ≤ length rows
