@@ -34,8 +34,8 @@ pub fn seats_are_exclusive()
     ensures { SeatsAreExclusive }
 {}
 
-/// At each moment of a split phase, a seat slices exactly the pages in its driver's slots, with which the phase was
-/// released.
+/// At each moment, a seat that runs a split phase slices exactly the pages in its driver's slots, with which the phase
+/// was released.
 pub fn slices_are_slots()
     ensures { SlicesAreSlots }
 {}
