@@ -18,7 +18,7 @@ STEP = re.compile(r"^\d+\. .*$", re.M)
 PLACED = re.compile(r"`([\w:]+)` \((?:`(\w+)`: )?([\w./]+\.(?:rt|c|h))\)")
 
 # How many names of definitions stand in several modules, at most.
-SHARED = 99
+SHARED = 98
 
 # The endings of files with names that pages may use.
 ENDINGS = (".antt", ".rt", ".c", ".h", ".edit", ".edits", ".py", ".sh", ".toml")
