@@ -85,38 +85,38 @@ static void next_part(const inner_place *place, const likes_request *requests, s
 }
 
 /* Counts likes, up to the first that isn't counted: how many, and a status that says why no more. */
-static size_t count_likes(const inner_trial *it, const part *next, likes_answer *answers, uint32_t *status) {
+static size_t count_likes(inner_member *member, const part *next, likes_answer *answers, uint32_t *status) {
     const likes_answer liked = {.status = LIKES_LIKED};
     size_t done = 0;
-    *status = likes_client_like_row(&it->member->client, it->place->number, next->likes, next->length, &done);
+    *status = likes_client_like_row(&member->client, member->held->number, next->likes, next->length, &done);
     for (size_t i = 0; i < done; i++)
         answers[i] = liked;
-    inner_add(&it->member->likes, done);
+    inner_add(&member->likes, done);
     return done;
 }
 
 /* Runs a row of requests, or answers a look. The number of those done, and a status that tells if the next one is too
  * early. */
-static size_t run_part(const inner_trial *it, const likes_request *requests, size_t length, likes_answer *answers,
+static size_t run_part(inner_member *member, const likes_request *requests, size_t length, likes_answer *answers,
                        uint32_t *status) {
+    inner_place *place = member->held;
     part next;
     size_t likes = 0;
-    next_part(it->place, requests, length, &next);
+    next_part(place, requests, length, &next);
     if (next.length == 0) {
-        *status = inner_look(it->member, it->place, requests, answers);
+        *status = inner_look(member, place, requests, answers);
         return *status != LIKES_BETWEEN && *status != LIKES_NO_ROOM;
     }
-    if (next.others == 0 && (likes = count_likes(it, &next, answers, status)) > 0)
+    if (next.others == 0 && (likes = count_likes(member, &next, answers, status)) > 0)
         return likes;
     for (size_t i = 0; i < next.length; i++)
-        inner_fetch(it->place->lasts, it->member->service->inverse, next.likes[i].user);
-    size_t done =
-        likes_client_run(&it->member->client, it->place->number, requests, next.length, answers, next.length);
+        inner_fetch(place->lasts, member->service->inverse, next.likes[i].user);
+    size_t done = likes_client_run(&member->client, place->number, requests, next.length, answers, next.length);
     for (size_t i = 0; i < done; i++) {
         likes += answers[i].status == LIKES_LIKED;
-        it->place->hosts += answers[i].status == LIKES_WAITS;
+        place->hosts += answers[i].status == LIKES_WAITS;
     }
-    inner_add(&it->member->likes, likes);
+    inner_add(&member->likes, likes);
     *status = done < next.length ? answers[done].status : (uint32_t)LIKES_OK;
     return done;
 }
@@ -126,15 +126,16 @@ size_t inner_run(inner_member *member, inner_place *place, const likes_request *
     size_t done = 0, many = 1;
     uint32_t status, hosts = place->hosts;
     while (done < length && many > 0) {
-        inner_trial it;
-        inner_start(&it, member, place, INNER_NEVER);
         do {
-            many = run_part(&it, requests + done, length - done, answers + done, &status);
-            done += many;
+            status = inner_has_locked(member, place) ? (uint32_t)LIKES_OK : inner_lock(member, place);
+            if (status == LIKES_OK) {
+                many = run_part(member, requests + done, length - done, answers + done, &status);
+                done += many;
+            }
             /* Where the host's own looks fill the seat, no phase makes room. */
             if (status == LIKES_NO_ROOM && place->hosts == member->service->room)
                 status = LIKES_GLIMPSED;
-        } while (waits && inner_again(&it, &status));
+        } while (waits && inner_again(member, place, INNER_NEVER, &status));
     }
     inner_looks_wait(member, place, hosts);
     return done;

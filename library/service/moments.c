@@ -69,7 +69,7 @@ static bool is_held_long(const likes_service *service, sighting *seen) {
  * in it. With `seen`, it gives up once a seat is held for long. */
 static uint32_t go_to_moment(inner_member *member, uint64_t *counts, size_t pages, sighting *seen) {
     for (;;) {
-        inner_seats_work(member);
+        inner_work(member);
         uint32_t status = likes_client_snapshot(&member->client, 0, counts, pages);
         if (status != LIKES_NO_MOMENT || (seen != NULL && is_held_long(member->service, seen)))
             return status;

@@ -23,6 +23,7 @@ static likes_service *made(const likes_shared *shared, const likes_options *opti
     service->users = options->users;
     service->pages = options->pages;
     service->inverse = UINT64_MAX / seats + 1;
+    service->all = UINT64_MAX >> (LIKES_MAX_SEATS - seats);
     service->period = UINT64_C(1000) * (options->period_us > 0 ? options->period_us : 1000);
     for (uint32_t i = 0; i < seats; i++) {
         inner_place *place = &service->places[i];
@@ -93,7 +94,8 @@ static uint32_t leave(inner_member *member) {
     likes_service *service = member->service;
     for (uint32_t i = 0; i < service->seats; i++)
         service->places[i].is_leaving = true;
-    inner_seats_work(member);
+    service->work = service->all;
+    inner_work(member);
     pthread_mutex_lock(&service->turning);
     uint32_t status = inner_turn(member, LIKES_END_IF_IT_SERVES);
     inner_stir(member);

@@ -1,10 +1,6 @@
 /* Places: what is left for the thread that has a seat, and who gets which found look. */
 #include "service.h"
 
-static bool has_locked(const inner_member *member, const inner_place *place) {
-    return (member->locked >> place->number & 1) != 0;
-}
-
 /* The C compiler, and sanitizers, know nothing of the proved lock. So `holds` tells them of its order. */
 uint32_t inner_lock(inner_member *member, inner_place *place) {
     uint32_t status = likes_client_lock(&member->client, place->number);
@@ -70,28 +66,28 @@ bool inner_take_found(inner_member *member, inner_place *place, likes_found *fou
 
 /* Does the phase work of a seat, with the seat locked. It retires if it is to leave. */
 static void work(inner_member *member, inner_place *place) {
+    member->service->work &= ~(UINT64_C(1) << place->number);
     uint32_t status = place->is_leaving ? likes_client_retire(&member->client, place->number)
                                         : likes_client_turn(&member->client, place->number);
     if (status == LIKES_GONE)
         place->is_leaving = false;
+    hand_out(member, place);
 }
 
 /* Does what was left at a place, if the seat is this client's, or free: else the thread that has it sees what was left
  * after it has given it back. Whether there was phase work. Who sleeps until the seat is free sleeps on while this client
  * has it locked. */
 static bool serve(inner_member *member, inner_place *place) {
-    bool is_mine = has_locked(member, place), has_worked = false;
-    while ((place->left & INNER_WORK) && (is_mine || inner_lock(member, place) == LIKES_OK)) {
-        place->left &= ~(uint32_t)INNER_WORK;
+    bool is_mine = inner_has_locked(member, place), has_worked = false;
+    while ((member->service->work >> place->number & 1) && (is_mine || inner_lock(member, place) == LIKES_OK)) {
         work(member, place);
-        hand_out(member, place);
         if (!is_mine)
             unlock(member, place);
         has_worked = true;
     }
-    if (!is_mine && (place->left & INNER_ASLEEP)) {
-        place->left &= ~(uint32_t)INNER_ASLEEP;
-        inner_futex_wake(&place->left, 1);
+    if (!is_mine && place->asleep != 0) {
+        place->asleep = 0;
+        inner_futex_wake(&place->asleep, 1);
     }
     return has_worked;
 }
@@ -104,14 +100,12 @@ INNER_SELDOM void inner_attend(inner_member *member, inner_place *place) {
 }
 
 /* A seat that the thread holds is left to its next call there. */
-void inner_seats_work(inner_member *member) {
-    likes_service *service = member->service;
-    uint64_t steps = service->steps;
-    for (uint32_t i = 0; i < service->seats; i++) {
-        inner_place *place = &service->places[i];
-        place->left |= INNER_WORK;
-        if (member->held != place || !has_locked(member, place))
-            serve(member, place);
+bool inner_work(inner_member *member) {
+    bool has_worked = false;
+    for (uint64_t seats = member->service->work; seats != 0; seats &= seats - 1) {
+        inner_place *place = &member->service->places[__builtin_ctzll(seats)];
+        if (member->held != place || !inner_has_locked(member, place))
+            has_worked |= serve(member, place);
     }
-    service->served = steps;
+    return has_worked;
 }

@@ -4,8 +4,8 @@
  * There is one rule for what is left to others: set a flag, then try; who has what was tried gives it back, then looks
  * at the flag. So either the try succeeds, or the flag is seen.
  *
- *   - A seat: the flags are in its place's word `left`. Each call of a client gives the seat back by a sequentially
- *     consistent store, and the word is loaded after it (place.c).
+ *   - A seat: the flags are its bit of `work`, and its place's `asleep`. Each call of a client gives the seat back by a
+ *     sequentially consistent store, and they are loaded after it (place.c).
  *   - The driver: the flag is `wished`, and the right to make turns is a mutex (turns.c).
  *   - The driver's thread sleeps while a number, `call`, is the same. Only this thread rests (thread.c).
  *   - Who waits for a phase sleeps while its number, `released`, is the same as before its call (waits.c).
@@ -34,9 +34,6 @@
 /* What each call uses lies in two lines of a cache, apart from what each call at another seat uses. */
 #define INNER_APART _Alignas(128)
 
-/* Of a place's `left`: phase work is wanted; a thread sleeps until the seat is free. */
-enum { INNER_WORK = 1, INNER_ASLEEP = 2 };
-
 /* A service's `wished`, or 0: a turn is wanted; the thread that makes turns sleeps until one is. */
 enum { INNER_WISHED = 1, INNER_WATCHED = 2 };
 
@@ -47,8 +44,8 @@ enum { INNER_ROW = 64 };
 #define INNER_TAGS (UINT64_C(1) << 63)
 
 typedef struct inner_place {
-    INNER_APART _Atomic uint32_t left; /* a futex */
-    uint32_t number;                   /* of the seat */
+    INNER_APART _Atomic uint32_t asleep; /* 1: a thread sleeps until the seat is free. A futex */
+    uint32_t number;                     /* of the seat */
     _Atomic uint32_t waiting;          /* how many threads wait until it is free */
     _Atomic uint32_t holds;            /* odd while a thread holds it and is in no call; goes up with each such call */
     _Atomic bool is_leaving;           /* who does the seat's phase work retires it, if it can */
@@ -77,6 +74,11 @@ typedef struct inner_member {
     inner_place *held; /* the seat that likes_service_lock gave to the thread */
     uint64_t locked;   /* the seats that the client has locked. A bit for each */
     inner_wait *waits;
+    /* Of a call that waits (waits.c): how often the seat was busy, and the call too late for a phase, one after the other;
+     * a phase that was released before the call; until when it waits for the next one without sleep. */
+    bool is_waiting;
+    uint32_t tries, misses;
+    uint64_t phase, spins_until;
     /* What the thread did, as in likes_statistics. */
     _Atomic uint64_t likes, looks, waited, wait_time, longest_wait, late;
     uint64_t thread;           /* whose it is: a number, or 0. Under the lock of member.c, as */
@@ -88,15 +90,14 @@ struct likes_service {
     uint32_t seats, users, room;
     uint64_t id;      /* no other service has the same */
     uint64_t inverse; /* of `seats`, for inner_remainder */
+    uint64_t all;     /* the bits of all seats */
     inner_place *places;
     size_t pages;
     uint64_t period;                    /* in nanoseconds */
     INNER_APART _Atomic uint64_t pulse; /* for writers: goes up once in a period, and when the service begins to rest */
     _Atomic bool is_used;               /* a call was made since the last round */
     _Atomic uint64_t released;          /* the phase that was last released; a futex, by its lower half */
-    _Atomic uint64_t
-        steps; /* how often seats had work to do: when a phase was about to end, and when looks were found */
-    _Atomic uint64_t served;   /* the step at which all seats had theirs, or it was left to who has the seat */
+    _Atomic uint64_t work;     /* the seats whose phase work is to be done. A bit for each, as in `all` */
     _Atomic uint64_t due;      /* when the phase may end */
     _Atomic uint64_t wakes_at; /* until when the driver's thread sleeps. 0: it is awake, or rests */
     _Atomic uint32_t starving; /* how many threads have missed phases, and wait for the next one to make a call */
@@ -201,61 +202,37 @@ void inner_attend(inner_member *member, inner_place *place);
 
 /* After each call of a client at a seat. */
 static inline void inner_after(inner_member *member, inner_place *place) {
-    bool is_resting = member->service->is_resting;
-    if (__builtin_expect(place->left != 0 || is_resting, false))
+    const likes_service *service = member->service;
+    bool has_work = service->work >> place->number & 1, is_resting = service->is_resting;
+    if (__builtin_expect(has_work || place->asleep != 0 || is_resting, false))
         inner_attend(member, place);
 }
 
-/* Does the phase work of all seats, or leaves it to who has the seat. */
-void inner_seats_work(inner_member *member);
+/* Does the phase work that is to be done, or leaves it to who has the seat. Whether it did any. */
+bool inner_work(inner_member *member);
 
-/* Locks a seat for this client, if it is free: LIKES_OK or LIKES_BUSY. Unlocks it, and does what was left. */
+/* Whether this client has a seat locked. Locks it, if it is free: LIKES_OK or LIKES_BUSY. Unlocks it, and does what was
+ * left. */
+static inline bool inner_has_locked(const inner_member *member, const inner_place *place) {
+    return (member->locked >> place->number & 1) != 0;
+}
 uint32_t inner_lock(inner_member *member, inner_place *place);
 void inner_unlock(inner_member *member, inner_place *place);
 
 /* Takes the next found look of the host's, at a seat that the thread has locked. */
 bool inner_take_found(inner_member *member, inner_place *place, likes_found *found);
 
-/* waits.c: a call of a client at a seat, which is made again until it is answered. */
-typedef struct inner_trial {
-    inner_member *member;
-    inner_place *place;
-    uint64_t until; /* when it is too late, or INNER_NEVER */
-    uint64_t phase; /* one that was released before the call */
-    /* From the first wait on: how often the seat was busy, and the call too late for a phase, one after the other; what
-     * the place's word was, where the thread waits for the seat. */
-    bool has_waited;
-    uint32_t tries, misses, left;
-    uint64_t spins_until;
-} inner_trial;
+/* waits.c: waits, where a call of a client wasn't answered, since its seat is busy or between two phases, or looks fill it.
+ * Whether it has to be made again. Or it is too late, which is what `until` says: LIKES_LATE. */
+bool inner_wait_on(inner_member *member, inner_place *place, uint64_t until, uint32_t *status);
 
-static inline void inner_start(inner_trial *it, inner_member *member, inner_place *place, uint64_t until) {
-    it->member = member;
-    it->place = place;
-    it->until = until;
-    it->phase = member->service->released;
-    it->has_waited = false;
-}
-
-/* The status of a call that wasn't made yet. */
-#define INNER_UNTRIED UINT32_MAX
-
-/* Whether a call has its answer. Else it has to be made again: the seat is busy, or between two phases, or looks fill it.
- */
-static inline bool inner_is_answered(uint32_t status) {
-    return status != LIKES_BUSY && status != LIKES_BETWEEN && status != LIKES_NO_ROOM;
-}
-
-/* Waits, where a call wasn't answered. Whether it has to be made again. Or it is too late: LIKES_LATE. */
-bool inner_wait_and_try(inner_trial *it, uint32_t *status);
-
-/* Whether a call has to be made, the first time or again. */
-static inline bool inner_again(inner_trial *it, uint32_t *status) {
-    if (*status == INNER_UNTRIED)
-        return true;
-    if (*status != LIKES_BUSY)
-        inner_after(it->member, it->place);
-    return __builtin_expect(!inner_is_answered(*status) || it->has_waited, false) && inner_wait_and_try(it, status);
+/* After a call of a client at a seat: whether it has to be made again. */
+static inline bool inner_again(inner_member *member, inner_place *place, uint64_t until, uint32_t *status) {
+    bool is_busy = *status == LIKES_BUSY, is_early = *status == LIKES_BETWEEN || *status == LIKES_NO_ROOM;
+    if (!is_busy)
+        inner_after(member, place);
+    return __builtin_expect(is_busy || is_early || member->is_waiting, false) &&
+           inner_wait_on(member, place, until, status);
 }
 
 /* Begins a call of a user, by a thread that may not hold a seat: LIKES_OK, and its member and the user's place; or what

@@ -24,19 +24,18 @@ static uint32_t hand_over(likes_writer *writer, size_t seat) {
     likes_pair *row = writer->rows[seat];
     inner_member *member;
     inner_place *place;
-    inner_trial trial;
     size_t length = writer->lengths[seat], done = 0, counted;
     if (length == 0)
         return LIKES_OK;
     uint32_t status = inner_begin(writer->service, row->user, false, &member, &place);
     if (status != LIKES_OK)
         return status;
-    status = INNER_UNTRIED;
-    inner_start(&trial, member, place, INNER_NEVER);
     for (size_t i = 0; i < length; i++)
         inner_fetch(place->lasts, writer->service->inverse, row[i].user);
-    for (; inner_again(&trial, &status); done += counted)
+    do {
         status = likes_client_like_row(&member->client, place->number, row + done, length - done, &counted);
+        done += counted;
+    } while (inner_again(member, place, INNER_NEVER, &status));
     inner_add(&member->likes, done);
     memmove(row, row + done, (length - done) * sizeof *row);
     writer->lengths[seat] = (uint8_t)(length - done);
@@ -95,13 +94,6 @@ uint32_t likes_writer_open(likes_service *service, likes_writer **writer) {
     return LIKES_OK;
 }
 
-/* Hands over a row that is full, and makes the driver's turn, if one is due: the writer may have the only processor. */
-static uint32_t hand_over_full(likes_writer *writer, size_t seat) {
-    uint32_t status = hand_over(writer, seat);
-    likes_service_tick(writer->service);
-    return status;
-}
-
 static inline void keep(likes_writer *writer, size_t seat, uint32_t user, uint32_t page) {
     uint8_t length = writer->lengths[seat]++;
     writer->rows[seat][length] = (likes_pair){user, page};
@@ -122,11 +114,14 @@ INNER_SELDOM static uint32_t like_slowly(likes_writer *writer, uint32_t user, ui
     if (writer->service->pulse != writer->pulse)
         notice(writer);
     size_t seat = seat_of(writer, user);
-    if (writer->lengths[seat] == INNER_ROW && (fault = hand_over_full(writer, seat)) != LIKES_OK)
+    if (writer->lengths[seat] == INNER_ROW && (fault = hand_over(writer, seat)) != LIKES_OK)
         return fault;
     keep(writer, seat, user, page);
-    if (writer->lengths[seat] == INNER_ROW)
-        hand_over_full(writer, seat);
+    if (writer->lengths[seat] < INNER_ROW)
+        return LIKES_OK;
+    /* The writer may have the only processor, so it makes the driver's turn, if one is due. */
+    hand_over(writer, seat);
+    likes_service_tick(writer->service);
     return LIKES_OK;
 }
 

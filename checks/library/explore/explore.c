@@ -517,9 +517,9 @@ static void check_place(const inner_place *place) {
     if (!stub_is_free(&explored->shared, seat))
         return;
     for (uint32_t i = 0; i < state.threads; i++)
-        if (sleeps_at(i, (const void *)&place->left))
+        if (sleeps_at(i, (const void *)&place->asleep))
             note("a thread sleeps at a free seat", 0);
-    if (place->left & INNER_WORK)
+    if (explored->work >> seat & 1)
         note("work is left at a free seat", 0);
     if (stub_has_work(&explored->shared, seat))
         note("phase work is left at a free seat", 0);
