@@ -4,17 +4,15 @@
 
 #include <stdlib.h>
 
-/* Makes a service over what is proved of it, which is closed. NULL: no memory. */
+/* Makes a service over what is proved of it, which is closed. Its places and their rings lie behind it. NULL: no memory.
+ */
 static likes_service *made(const likes_shared *shared, const likes_options *options) {
     uint32_t seats = (uint32_t)shared->seats, room = options->room > 0 ? options->room : LIKES_DEFAULT_ROOM;
     size_t size = sizeof(likes_service) + seats * sizeof(inner_place);
-    likes_service *service = (likes_service *)aligned_alloc(_Alignof(likes_service), size);
-    likes_found *found = (likes_found *)calloc((size_t)seats * room, sizeof *found);
-    if (service == NULL || found == NULL) {
-        free(service);
-        free(found);
+    size_t rings = (size_t)seats * room * sizeof(likes_found);
+    likes_service *service = (likes_service *)aligned_alloc(_Alignof(likes_service), size + rings);
+    if (service == NULL)
         return NULL;
-    }
     memset(service, 0, size);
     service->shared = *shared;
     service->places = (inner_place *)(service + 1);
@@ -30,7 +28,7 @@ static likes_service *made(const likes_shared *shared, const likes_options *opti
         place->number = i;
         place->service = service;
         place->seat.at = (void *)((uintptr_t)place + 1);
-        place->found = found + (size_t)i * room;
+        place->found = (likes_found *)(service->places + seats) + (size_t)i * room;
     }
     pthread_mutex_init(&service->turning, NULL);
     return service;
@@ -40,7 +38,6 @@ static likes_service *made(const likes_shared *shared, const likes_options *opti
 static void end(likes_service *service) {
     service->is_open = false;
     inner_members_close(service);
-    free(service->places[0].found);
     pthread_mutex_destroy(&service->turning);
 }
 
@@ -58,8 +55,9 @@ static uint32_t begin(likes_service *service) {
     return service->has_thread ? LIKES_OK : LIKES_NO_THREAD;
 }
 
-static uint32_t open_service(const likes_options *options, likes_service **service) {
+uint32_t likes_service_open(const likes_options *options, likes_service **service) {
     likes_shared shared = {0};
+    int error = errno;
     if (options == NULL || service == NULL)
         return LIKES_NULL;
     if (*service != NULL)
@@ -73,18 +71,12 @@ static uint32_t open_service(const likes_options *options, likes_service **servi
     status = opened == NULL ? (uint32_t)LIKES_NO_MEMORY : begin(opened);
     if (status == LIKES_OK) {
         *service = opened;
-        return status;
+    } else {
+        if (opened != NULL)
+            end(opened);
+        likes_shared_free(&shared);
+        free(opened);
     }
-    if (opened != NULL)
-        end(opened);
-    likes_shared_free(&shared);
-    free(opened);
-    return status;
-}
-
-uint32_t likes_service_open(const likes_options *options, likes_service **service) {
-    int error = errno;
-    uint32_t status = open_service(options, service);
     errno = error;
     return status;
 }

@@ -94,7 +94,7 @@ struct likes_service {
     inner_place *places;
     size_t pages;
     uint64_t period;                    /* in nanoseconds */
-    INNER_APART _Atomic uint64_t pulse; /* for writers: goes up once in a period, and when the service begins to rest */
+    INNER_APART _Atomic uint64_t pulse; /* for writers: how often the driver's thread went to sleep */
     _Atomic bool is_used;               /* a call was made since the last round */
     _Atomic uint64_t released;          /* the phase that was last released; a futex, by its lower half */
     _Atomic uint64_t work;     /* the seats whose phase work is to be done. A bit for each, as in `all` */

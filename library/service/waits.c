@@ -18,9 +18,10 @@ bool inner_await_phase(inner_member *member, uint64_t phase, uint64_t until) {
     return service->released != phase;
 }
 
-/* Waits for a phase. At first it tries again at once, so there is a phase that was released before the call. Then it waits
- * without sleep for a while, and makes turns, since the call may have been the last that its phase waited for. A thread
- * that has the seat locked unlocks it before it sleeps, and others can have it. Whether there is time for another try. */
+/* Waits for a phase. At first it tries again at once, so there is a phase that was released before the call. Then it
+ * waits without sleep for a while, and makes turns, since the call may have been the last that its phase waited for. A
+ * thread that has the seat locked unlocks it before it sleeps, and others can have it. Whether there is time for another
+ * try. */
 static bool wait_for_phase(inner_member *member, inner_place *place, uint64_t until) {
     likes_service *service = member->service;
     bool is_released = true;
@@ -52,8 +53,8 @@ static void note_miss(inner_member *member, bool has_missed) {
 }
 
 /* The seat is busy: tries at once, then says that it sleeps and tries, then sleeps. Who gives the seat back wakes one
- * thread. That one says that it sleeps before its next try, so the next one is woken too. No phase waits for a thread that
- * sleeps so: who has the seat may wait for the next phase. Whether there is time for another try. */
+ * thread. That one says that it sleeps before its next try, so the next one is woken too. No phase waits for a thread
+ * that sleeps so: who has the seat may wait for the next phase. Whether there is time for another try. */
 static bool wait_for_seat(inner_member *member, inner_place *place, uint64_t until) {
     if (member->tries < TRIES) {
         for (uint32_t pauses = member->tries++; pauses > 0; pauses--)
