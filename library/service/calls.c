@@ -6,39 +6,39 @@
 /* The line of the user's last like is fetched while the call takes the seat's lock: to give that back waits for it. */
 uint32_t likes_service_like(likes_service *service, uint32_t user, uint32_t page) {
     inner_member *member;
-    inner_place *place;
-    uint32_t status = inner_begin(service, user, false, &member, &place);
+    inner_seat *seat;
+    uint32_t status = inner_begin(service, user, false, &member, &seat);
     if (status != LIKES_OK)
         return status;
-    inner_fetch(place->lasts, service->inverse, user);
+    inner_fetch(seat->lasts, service->inverse, user);
     do
-        status = likes_client_like(&member->client, place->number, user, page);
-    while (inner_again(member, place, INNER_NEVER, &status));
+        status = likes_client_like(&member->client, seat->number, user, page);
+    while (inner_again(member, seat, INNER_NEVER, &status));
     inner_add(&member->likes, status == LIKES_LIKED);
     return status;
 }
 
 uint32_t likes_service_glance(likes_service *service, uint32_t user, uint32_t page, likes_answer *answer) {
     inner_member *member;
-    inner_place *place;
-    uint32_t status = inner_begin(service, user, answer == NULL, &member, &place);
+    inner_seat *seat;
+    uint32_t status = inner_begin(service, user, answer == NULL, &member, &seat);
     if (status != LIKES_OK)
         return inner_refuse(answer, status);
     do
-        status = likes_client_glance(&member->client, place->number, user, page, answer);
-    while (inner_again(member, place, INNER_NEVER, &status));
+        status = likes_client_glance(&member->client, seat->number, user, page, answer);
+    while (inner_again(member, seat, INNER_NEVER, &status));
     return status;
 }
 
 uint32_t likes_service_last(likes_service *service, uint32_t user, uint32_t *page) {
     inner_member *member;
-    inner_place *place;
-    uint32_t status = inner_begin(service, user, page == NULL, &member, &place);
+    inner_seat *seat;
+    uint32_t status = inner_begin(service, user, page == NULL, &member, &seat);
     if (status != LIKES_OK)
         return status;
     do
-        status = likes_client_last(&member->client, place->number, user, page);
-    while (inner_again(member, place, INNER_NEVER, &status));
+        status = likes_client_last(&member->client, seat->number, user, page);
+    while (inner_again(member, seat, INNER_NEVER, &status));
     return status;
 }
 
@@ -76,16 +76,16 @@ static uint32_t await_found(inner_member *member, inner_wait *wait, uint64_t unt
 
 static uint32_t look_until(likes_service *service, uint32_t user, uint32_t page, uint64_t until, likes_answer *answer) {
     inner_member *member;
-    inner_place *place;
-    uint32_t status = inner_begin(service, user, answer == NULL, &member, &place);
+    inner_seat *seat;
+    uint32_t status = inner_begin(service, user, answer == NULL, &member, &seat);
     inner_wait *wait = status == LIKES_OK ? wait_of(member) : NULL;
     if (wait == NULL)
         return inner_refuse(answer, status != LIKES_OK ? status : (uint32_t)LIKES_NO_MEMORY);
     uint64_t tag = INNER_TAGS | (uint64_t)(uintptr_t)wait;
     wait->state = INNER_ASKED;
     do
-        status = likes_client_look(&member->client, place->number, user, page, tag, answer);
-    while (inner_again(member, place, until, &status));
+        status = likes_client_look(&member->client, seat->number, user, page, tag, answer);
+    while (inner_again(member, seat, until, &status));
     if (status == LIKES_WAITS)
         status = await_found(member, wait, until, answer);
     else

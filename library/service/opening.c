@@ -4,18 +4,18 @@
 
 #include <stdlib.h>
 
-/* Makes a service over what is proved of it, which is closed. Its places and their rings lie behind it. NULL: no memory.
+/* Makes a service over what is proved of it, which is closed. Its seats and their rings lie behind it. NULL: no memory.
  */
 static likes_service *made(const likes_shared *shared, const likes_options *options) {
     uint32_t seats = (uint32_t)shared->seats, room = options->room > 0 ? options->room : LIKES_DEFAULT_ROOM;
-    size_t size = sizeof(likes_service) + seats * sizeof(inner_place);
+    size_t size = sizeof(likes_service) + seats * sizeof(inner_seat);
     size_t rings = (size_t)seats * room * sizeof(likes_found);
     likes_service *service = (likes_service *)aligned_alloc(_Alignof(likes_service), size + rings);
     if (service == NULL)
         return NULL;
     memset(service, 0, size);
     service->shared = *shared;
-    service->places = (inner_place *)(service + 1);
+    service->seat = (inner_seat *)(service + 1);
     service->seats = seats;
     service->room = room;
     service->users = options->users;
@@ -24,11 +24,11 @@ static likes_service *made(const likes_shared *shared, const likes_options *opti
     service->all = UINT64_MAX >> (LIKES_MAX_SEATS - seats);
     service->period = UINT64_C(1000) * (options->period_us > 0 ? options->period_us : 1000);
     for (uint32_t i = 0; i < seats; i++) {
-        inner_place *place = &service->places[i];
-        place->number = i;
-        place->service = service;
-        place->seat.at = (void *)((uintptr_t)place + 1);
-        place->found = (likes_found *)(service->places + seats) + (size_t)i * room;
+        inner_seat *seat = &service->seat[i];
+        seat->number = i;
+        seat->service = service;
+        seat->handle.at = (void *)((uintptr_t)seat + 1);
+        seat->found = (likes_found *)(service->seat + seats) + (size_t)i * room;
     }
     pthread_mutex_init(&service->turning, NULL);
     return service;
@@ -49,7 +49,7 @@ static uint32_t begin(likes_service *service) {
     for (uint32_t i = 0; i < service->seats; i++) {
         likes_address lasts = {0};
         likes_proved_client_address(&service->own->client, i, &lasts);
-        service->places[i].lasts = (uintptr_t)lasts.at;
+        service->seat[i].lasts = (uintptr_t)lasts.at;
     }
     service->has_thread = pthread_create(&service->thread, NULL, inner_driver, service) == 0;
     return service->has_thread ? LIKES_OK : LIKES_NO_THREAD;
@@ -85,7 +85,7 @@ uint32_t likes_service_open(const likes_options *options, likes_service **servic
 static uint32_t leave(inner_member *member) {
     likes_service *service = member->service;
     for (uint32_t i = 0; i < service->seats; i++)
-        service->places[i].is_leaving = true;
+        service->seat[i].is_leaving = true;
     service->work = service->all;
     inner_work(member);
     pthread_mutex_lock(&service->turning);

@@ -124,7 +124,7 @@ void inner_stir(inner_member *member) {
     inner_call(service);
 }
 
-/* These two may be called by a thread that holds a seat. */
+/* These two may be called by a thread that has locked a seat. */
 uint32_t likes_service_drive(likes_service *service) {
     inner_member *member;
     uint32_t fault = inner_enter(service, false, &member);

@@ -22,7 +22,7 @@ bool inner_await_phase(inner_member *member, uint64_t phase, uint64_t until) {
  * waits without sleep for a while, and makes turns, since the call may have been the last that its phase waited for. A
  * thread that has the seat locked unlocks it before it sleeps, and others can have it. Whether there is time for another
  * try. */
-static bool wait_for_phase(inner_member *member, inner_place *place, uint64_t until) {
+static bool wait_for_phase(inner_member *member, inner_seat *seat, uint64_t until) {
     likes_service *service = member->service;
     bool is_released = true;
     if (member->spins_until == 0) {
@@ -33,8 +33,8 @@ static bool wait_for_phase(inner_member *member, inner_place *place, uint64_t un
             sched_yield();
         }
         if (service->released == member->phase) {
-            if (inner_has_locked(member, place))
-                inner_unlock(member, place);
+            if (inner_has(member, seat))
+                inner_unlock(member, seat);
             is_released = inner_await_phase(member, member->phase, until);
         }
     }
@@ -55,45 +55,45 @@ static void note_miss(inner_member *member, bool has_missed) {
 /* The seat is busy: tries at once, then says that it sleeps and tries, then sleeps. Who gives the seat back wakes one
  * thread. That one says that it sleeps before its next try, so the next one is woken too. No phase waits for a thread
  * that sleeps so: who has the seat may wait for the next phase. Whether there is time for another try. */
-static bool wait_for_seat(inner_member *member, inner_place *place, uint64_t until) {
+static bool wait_for_seat(inner_member *member, inner_seat *seat, uint64_t until) {
     if (member->tries < TRIES) {
         for (uint32_t pauses = member->tries++; pauses > 0; pauses--)
             inner_pause();
         return true;
     }
     if (member->tries++ == TRIES) {
-        place->waiting++;
+        seat->waiting++;
     } else if (inner_is_over(until)) {
         return false;
     } else {
         note_miss(member, false);
-        inner_futex_wait(&place->asleep, 1, until);
+        inner_futex_wait(&seat->asleep, 1, until);
     }
-    place->asleep = 1;
+    seat->asleep = 1;
     return true;
 }
 
 /* The thread doesn't wait for the seat any more. */
-static void leave_seat(inner_member *member, inner_place *place) {
+static void leave_seat(inner_member *member, inner_seat *seat) {
     if (member->tries > TRIES)
-        place->waiting--;
+        seat->waiting--;
     member->tries = 0;
 }
 
-INNER_SELDOM bool inner_wait_on(inner_member *member, inner_place *place, uint64_t until, uint32_t *status) {
+INNER_SELDOM bool inner_wait_on(inner_member *member, inner_seat *seat, uint64_t until, uint32_t *status) {
     bool is_early = *status == LIKES_BETWEEN || *status == LIKES_NO_ROOM, has_time = true;
     if (*status != LIKES_BUSY) {
-        leave_seat(member, place);
+        leave_seat(member, seat);
         note_miss(member, *status == LIKES_BETWEEN);
     }
     if (is_early)
-        has_time = wait_for_phase(member, place, until);
+        has_time = wait_for_phase(member, seat, until);
     else if (*status == LIKES_BUSY)
-        has_time = wait_for_seat(member, place, until);
+        has_time = wait_for_seat(member, seat, until);
     member->is_waiting = has_time && (is_early || *status == LIKES_BUSY);
     if (member->is_waiting)
         return true;
-    leave_seat(member, place);
+    leave_seat(member, seat);
     note_miss(member, false);
     member->spins_until = 0;
     if (!has_time)
@@ -101,10 +101,10 @@ INNER_SELDOM bool inner_wait_on(inner_member *member, inner_place *place, uint64
     return false;
 }
 
-bool inner_hold(inner_member *member, inner_place *place, uint64_t until) {
+bool inner_lock_until(inner_member *member, inner_seat *seat, uint64_t until) {
     uint32_t status;
     do
-        status = inner_lock(member, place);
-    while (inner_again(member, place, until, &status));
+        status = inner_lock(member, seat);
+    while (inner_again(member, seat, until, &status));
     return status == LIKES_OK;
 }

@@ -107,7 +107,7 @@ static void full(void) {
     inner_member *member = inner_member_of(explored);
     likes_client_look(&member->client, 0, 0, 0, 1, &answer);
     likes_client_look(&member->client, 0, 0, 0, 2, &answer);
-    explored->places[0].hosts = 2;
+    explored->seat[0].hosts = 2;
 }
 
 /* A thread's member is made before its calls. */
@@ -124,14 +124,14 @@ static inner_member *begin(uint32_t user) {
 
 static void hold(void) {
     inner_member *member = begin(USERS);
-    inner_hold(member, &explored->places[0], INNER_NEVER);
-    inner_unlock(member, &explored->places[0]);
+    inner_lock_until(member, &explored->seat[0], INNER_NEVER);
+    inner_unlock(member, &explored->seat[0]);
 }
 
 static void hold_late(void) {
     inner_member *member = begin(USERS);
-    if (inner_hold(member, &explored->places[0], model_time()))
-        inner_unlock(member, &explored->places[0]);
+    if (inner_lock_until(member, &explored->seat[0], model_time()))
+        inner_unlock(member, &explored->seat[0]);
 }
 
 static void leave_work(void) {
@@ -169,7 +169,7 @@ static void look_after_misses(void) {
     inner_member *member = miss();
     uint32_t status = LIKES_NO_ROOM;
     begin_call("a look after misses", 2 * PERIOD);
-    while (inner_again(member, &explored->places[0], INNER_NEVER, &status))
+    while (inner_again(member, &explored->seat[0], INNER_NEVER, &status))
         status = likes_client_look(&member->client, 0, 0, 0, 3, &answers[0]);
     end_call();
 }
@@ -178,7 +178,7 @@ static void look_after_misses(void) {
 static void like_after_misses(void) {
     inner_member *member = miss();
     uint32_t status = LIKES_BUSY;
-    while (inner_again(member, &explored->places[0], INNER_NEVER, &status))
+    while (inner_again(member, &explored->seat[0], INNER_NEVER, &status))
         status = likes_client_like(&member->client, 0, 0, 1);
 }
 
