@@ -175,11 +175,11 @@ void likes_proved_phase_free(likes_phase *phase) {
     }
 _Thread_local inner_thread inner_mine;
 NOT_CALLED(inner_member *, inner_member_find, likes_service *service)
-NOT_CALLED(void, inner_attend, inner_member *member, inner_place *place)
-NOT_CALLED(bool, inner_take_found, inner_member *member, inner_place *place, likes_found *found)
-NOT_CALLED(uint32_t, inner_look, inner_member *member, inner_place *place, const likes_request *request,
+NOT_CALLED(void, inner_attend, inner_member *member, inner_seat *seat)
+NOT_CALLED(bool, inner_take_found, inner_member *member, inner_seat *seat, likes_found *found)
+NOT_CALLED(uint32_t, inner_look, inner_member *member, inner_seat *seat, const likes_request *request,
            likes_answer *answer)
-NOT_CALLED(size_t, inner_run, inner_member *member, inner_place *place, const likes_request *requests,
+NOT_CALLED(size_t, inner_run, inner_member *member, inner_seat *seat, const likes_request *requests,
            size_t length, likes_answer *answers, bool waits)
 NOT_CALLED(uint32_t, likes_client_like, likes_client *client, uint32_t seat, uint32_t user, uint32_t page)
 NOT_CALLED(uint32_t, likes_client_glance, likes_client *client, uint32_t seat, uint32_t user, uint32_t page,

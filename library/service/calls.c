@@ -3,52 +3,42 @@
 
 #include <stdlib.h>
 
-/* Makes a call of a client at a place, until it is answered. Most are at once, so the first try is without a trial. */
-#define MAKE(status, until, call)                                                                                      \
-    do {                                                                                                               \
-        status = (call);                                                                                               \
-        if (status != LIKES_BUSY)                                                                                      \
-            inner_after(member, place);                                                                                \
-        if (__builtin_expect(inner_is_answered(status), true))                                                         \
-            break;                                                                                                     \
-        inner_trial it;                                                                                                \
-        uint32_t told = INNER_UNTRIED;                                                                                 \
-        inner_start(&it, member, place, until);                                                                        \
-        while (inner_again(&it, &told))                                                                                \
-            told = (call);                                                                                             \
-        status = told;                                                                                                 \
-    } while (0)
-
 /* The line of the user's last like is fetched while the call takes the seat's lock: to give that back waits for it. */
 uint32_t likes_service_like(likes_service *service, uint32_t user, uint32_t page) {
     inner_member *member;
-    inner_place *place;
-    uint32_t status = inner_begin(service, user, false, &member, &place);
+    inner_seat *seat;
+    uint32_t status = inner_begin(service, user, false, &member, &seat);
     if (status != LIKES_OK)
         return status;
-    inner_fetch(place->lasts, service->inverse, user);
-    MAKE(status, INNER_NEVER, likes_client_like(&member->client, place->number, user, page));
+    inner_fetch(seat->lasts, service->inverse, user);
+    do
+        status = likes_client_like(&member->client, seat->number, user, page);
+    while (inner_again(member, seat, INNER_NEVER, &status));
     inner_add(&member->likes, status == LIKES_LIKED);
     return status;
 }
 
 uint32_t likes_service_glance(likes_service *service, uint32_t user, uint32_t page, likes_answer *answer) {
     inner_member *member;
-    inner_place *place;
-    uint32_t status = inner_begin(service, user, answer == NULL, &member, &place);
+    inner_seat *seat;
+    uint32_t status = inner_begin(service, user, answer == NULL, &member, &seat);
     if (status != LIKES_OK)
         return inner_refuse(answer, status);
-    MAKE(status, INNER_NEVER, likes_client_glance(&member->client, place->number, user, page, answer));
+    do
+        status = likes_client_glance(&member->client, seat->number, user, page, answer);
+    while (inner_again(member, seat, INNER_NEVER, &status));
     return status;
 }
 
 uint32_t likes_service_last(likes_service *service, uint32_t user, uint32_t *page) {
     inner_member *member;
-    inner_place *place;
-    uint32_t status = inner_begin(service, user, page == NULL, &member, &place);
+    inner_seat *seat;
+    uint32_t status = inner_begin(service, user, page == NULL, &member, &seat);
     if (status != LIKES_OK)
         return status;
-    MAKE(status, INNER_NEVER, likes_client_last(&member->client, place->number, user, page));
+    do
+        status = likes_client_last(&member->client, seat->number, user, page);
+    while (inner_again(member, seat, INNER_NEVER, &status));
     return status;
 }
 
@@ -86,14 +76,16 @@ static uint32_t await_found(inner_member *member, inner_wait *wait, uint64_t unt
 
 static uint32_t look_until(likes_service *service, uint32_t user, uint32_t page, uint64_t until, likes_answer *answer) {
     inner_member *member;
-    inner_place *place;
-    uint32_t status = inner_begin(service, user, answer == NULL, &member, &place);
+    inner_seat *seat;
+    uint32_t status = inner_begin(service, user, answer == NULL, &member, &seat);
     inner_wait *wait = status == LIKES_OK ? wait_of(member) : NULL;
     if (wait == NULL)
         return inner_refuse(answer, status != LIKES_OK ? status : (uint32_t)LIKES_NO_MEMORY);
+    uint64_t tag = INNER_TAGS | (uint64_t)(uintptr_t)wait;
     wait->state = INNER_ASKED;
-    MAKE(status, until,
-         likes_client_look(&member->client, place->number, user, page, INNER_TAGS | (uint64_t)(uintptr_t)wait, answer));
+    do
+        status = likes_client_look(&member->client, seat->number, user, page, tag, answer);
+    while (inner_again(member, seat, until, &status));
     if (status == LIKES_WAITS)
         status = await_found(member, wait, until, answer);
     else

@@ -2,12 +2,12 @@
 #include "service.h"
 
 /* Has a seat leave, or come back. Whoever does the phase work of a seat has it locked, as this thread has here. */
-static bool change(inner_member *member, inner_place *place, bool is_leaving) {
-    inner_hold(member, place, INNER_NEVER);
-    uint32_t status = is_leaving ? likes_client_retire(&member->client, place->number)
-                                 : likes_client_come_back(&member->client, place->number);
-    place->is_leaving = is_leaving && status != LIKES_GONE;
-    inner_unlock(member, place);
+static bool change(inner_member *member, inner_seat *seat, bool is_leaving) {
+    inner_lock_until(member, seat, INNER_NEVER);
+    uint32_t status = is_leaving ? likes_client_retire(&member->client, seat->number)
+                                 : likes_client_come_back(&member->client, seat->number);
+    seat->is_leaving = is_leaving && status != LIKES_GONE;
+    inner_unlock(member, seat);
     return status == (is_leaving ? LIKES_GONE : LIKES_RUNS);
 }
 
@@ -21,7 +21,7 @@ static uint32_t change_for_sure(likes_service *service, uint32_t number, bool is
     if (fault != LIKES_OK)
         return fault;
     uint64_t phase = service->released;
-    while (!change(member, &service->places[number], is_leaving)) {
+    while (!change(member, &service->seat[number], is_leaving)) {
         pthread_mutex_lock(&service->turning);
         inner_stir(member);
         inner_await_phase(member, phase, inner_clock() + INNER_CHOICE_TIME);

@@ -13,13 +13,13 @@ static bool has_key;
 static inner_member *members;
 static uint64_t numbers; /* of threads and services */
 
-/* When a thread ends. A member that holds a seat is nobody's from now on. A destructor of the host's that comes later may
+/* When a thread ends. A member that has locked a seat is nobody's from now on. A destructor of the host's that comes later may
  * call the service again: then the thread looks for a member anew, and this is called again. */
 static void end_thread(void *at) {
     inner_thread *mine = (inner_thread *)at;
     pthread_mutex_lock(&lock);
     for (inner_member *member = members; member != NULL; member = member->next)
-        if (member->thread == mine->number && member->held == NULL)
+        if (member->thread == mine->number && member->locked == NULL)
             member->thread = 0;
     pthread_mutex_unlock(&lock);
     memset(mine->members, 0, sizeof mine->members);

@@ -1,39 +1,39 @@
 /* Counts and last likes, of one moment or as they are. */
 #include "service.h"
 
-/* How long a snapshot waits for a seat that a thread holds, and sleeps before it looks again who does, in nanoseconds. */
+/* How long a snapshot waits for a seat that a thread has locked, and sleeps before it looks again, in nanoseconds. */
 #define MOMENT UINT64_C(100000000)
 #define NAP UINT64_C(10000000)
 
 /* Writes the last likes of a seat's users into an array by user number, with the seat locked. That takes long where
  * there are many, and phases go on meanwhile. */
-static void write_lasts(inner_member *member, inner_place *place, uint32_t *lasts) {
+static void write_lasts(inner_member *member, inner_seat *seat, uint32_t *lasts) {
     uint32_t row[256], seats = member->service->seats, all = member->service->users;
-    uint32_t users = all / seats + (place->number < all % seats);
+    uint32_t users = all / seats + (seat->number < all % seats);
     for (uint32_t from = 0, length; from < users; from += length) {
         length = users - from < 256 ? users - from : 256;
-        likes_client_lasts(&member->client, place->number, from, row, length);
-        inner_after(member, place);
+        likes_client_lasts(&member->client, seat->number, from, row, length);
+        inner_after(member, seat);
         for (uint32_t i = 0; i < length; i++)
-            lasts[(size_t)(from + i) * seats + place->number] = row[i];
+            lasts[(size_t)(from + i) * seats + seat->number] = row[i];
     }
 }
 
 /* Ends a joined phase that all seats have left: one that is free comes back, and leaves again once the end is announced.
  * (Last counts would end the service.) Whether one was free; it may not be gone any more. */
 static bool end_for_all(inner_member *member) {
-    inner_place *place = member->service->places;
+    inner_seat *seat = member->service->seat;
     uint32_t left = member->service->seats;
-    while (left > 0 && !inner_hold(member, place, 0))
-        place++, left--;
+    while (left > 0 && !inner_lock_until(member, seat, 0))
+        seat++, left--;
     if (left == 0)
         return false;
-    bool is_gone = likes_client_turn(&member->client, place->number) == LIKES_GONE;
-    if (is_gone && likes_client_come_back(&member->client, place->number) == LIKES_RUNS) {
+    bool is_gone = likes_client_turn(&member->client, seat->number) == LIKES_GONE;
+    if (is_gone && likes_client_come_back(&member->client, seat->number) == LIKES_RUNS) {
         inner_turn(member, LIKES_END);
-        likes_client_retire(&member->client, place->number);
+        likes_client_retire(&member->client, seat->number);
     }
-    inner_unlock(member, place);
+    inner_unlock(member, seat);
     return true;
 }
 
@@ -49,29 +49,29 @@ static uint32_t turn_to_moment(inner_member *member) {
 /* A seat as a call that waits for it last found it, and since when it has been so. */
 typedef struct sighting {
     uint64_t since;
-    uint32_t holds;
+    uint32_t calls;
 } sighting;
 
-/* Whether a thread has held a seat for MOMENT, without a call, since it was first found so. */
-static bool is_held_long(const likes_service *service, sighting *seen) {
+/* Whether a thread has had a seat locked for MOMENT, without a call, since it was first found so. */
+static bool is_locked_long(const likes_service *service, sighting *seen) {
     uint64_t now = inner_clock();
     bool is_long = false;
     for (uint32_t i = 0; i < service->seats; i++) {
-        uint32_t holds = service->places[i].holds;
-        if (holds != seen[i].holds || seen[i].since == 0)
-            seen[i] = (sighting){now, holds};
-        is_long |= holds % 2 == 1 && now - seen[i].since >= MOMENT;
+        uint32_t calls = service->seat[i].calls;
+        if (calls != seen[i].calls || seen[i].since == 0)
+            seen[i] = (sighting){now, calls};
+        is_long |= calls % 2 == 1 && now - seen[i].since >= MOMENT;
     }
     return is_long;
 }
 
 /* Goes on to a moment at which no count changes, and writes the counts. A service's last phase goes on: there is none
- * in it. With `seen`, it gives up once a seat is held for long. */
+ * in it. With `seen`, it gives up once a seat is locked for long. */
 static uint32_t go_to_moment(inner_member *member, uint64_t *counts, size_t pages, sighting *seen) {
     for (;;) {
-        inner_seats_work(member);
+        inner_work(member);
         uint32_t status = likes_client_snapshot(&member->client, 0, counts, pages);
-        if (status != LIKES_NO_MOMENT || (seen != NULL && is_held_long(member->service, seen)))
+        if (status != LIKES_NO_MOMENT || (seen != NULL && is_locked_long(member->service, seen)))
             return status;
         uint32_t turn = turn_to_moment(member);
         if (turn == LIKES_GOES_ON)
@@ -81,17 +81,17 @@ static uint32_t go_to_moment(inner_member *member, uint64_t *counts, size_t page
     }
 }
 
-/* Writes all last likes. With `seen`, it gives up once a seat is held for long. A thread that holds its seat lets others
+/* Writes all last likes. With `seen`, it gives up once a seat is locked for long. Who has locked one lets others
  * have it soon, if it waits for a phase in a call of the service. */
 static uint32_t write_all_lasts(inner_member *member, uint32_t *lasts, sighting *seen) {
     likes_service *service = member->service;
     for (uint32_t number = 0; number < service->seats; number++) {
-        inner_place *place = &service->places[number];
-        while (!inner_hold(member, place, seen != NULL ? inner_clock() + NAP : INNER_NEVER))
-            if (is_held_long(service, seen))
+        inner_seat *seat = &service->seat[number];
+        while (!inner_lock_until(member, seat, seen != NULL ? inner_clock() + NAP : INNER_NEVER))
+            if (is_locked_long(service, seen))
                 return LIKES_NO_MOMENT;
-        write_lasts(member, place, lasts);
-        inner_unlock(member, place);
+        write_lasts(member, seat, lasts);
+        inner_unlock(member, seat);
     }
     return LIKES_COUNTED;
 }

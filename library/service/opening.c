@@ -4,32 +4,31 @@
 
 #include <stdlib.h>
 
-/* Makes a service over what is proved of it, which is closed. NULL: no memory. */
+/* Makes a service over what is proved of it, which is closed. Its seats and their rings lie behind it. NULL: no memory.
+ */
 static likes_service *made(const likes_shared *shared, const likes_options *options) {
     uint32_t seats = (uint32_t)shared->seats, room = options->room > 0 ? options->room : LIKES_DEFAULT_ROOM;
-    size_t size = sizeof(likes_service) + seats * sizeof(inner_place);
-    likes_service *service = (likes_service *)aligned_alloc(_Alignof(likes_service), size);
-    likes_found *found = (likes_found *)calloc((size_t)seats * room, sizeof *found);
-    if (service == NULL || found == NULL) {
-        free(service);
-        free(found);
+    size_t size = sizeof(likes_service) + seats * sizeof(inner_seat);
+    size_t rings = (size_t)seats * room * sizeof(likes_found);
+    likes_service *service = (likes_service *)aligned_alloc(_Alignof(likes_service), size + rings);
+    if (service == NULL)
         return NULL;
-    }
     memset(service, 0, size);
     service->shared = *shared;
-    service->places = (inner_place *)(service + 1);
+    service->seat = (inner_seat *)(service + 1);
     service->seats = seats;
     service->room = room;
     service->users = options->users;
     service->pages = options->pages;
     service->inverse = UINT64_MAX / seats + 1;
+    service->all = UINT64_MAX >> (LIKES_MAX_SEATS - seats);
     service->period = UINT64_C(1000) * (options->period_us > 0 ? options->period_us : 1000);
     for (uint32_t i = 0; i < seats; i++) {
-        inner_place *place = &service->places[i];
-        place->number = i;
-        place->service = service;
-        place->seat.at = (void *)((uintptr_t)place + 1);
-        place->found = found + (size_t)i * room;
+        inner_seat *seat = &service->seat[i];
+        seat->number = i;
+        seat->service = service;
+        seat->handle.at = (void *)((uintptr_t)seat + 1);
+        seat->found = (likes_found *)(service->seat + seats) + (size_t)i * room;
     }
     pthread_mutex_init(&service->turning, NULL);
     return service;
@@ -39,7 +38,6 @@ static likes_service *made(const likes_shared *shared, const likes_options *opti
 static void end(likes_service *service) {
     service->is_open = false;
     inner_members_close(service);
-    free(service->places[0].found);
     pthread_mutex_destroy(&service->turning);
 }
 
@@ -51,14 +49,15 @@ static uint32_t begin(likes_service *service) {
     for (uint32_t i = 0; i < service->seats; i++) {
         likes_address lasts = {0};
         likes_proved_client_address(&service->own->client, i, &lasts);
-        service->places[i].lasts = (uintptr_t)lasts.at;
+        service->seat[i].lasts = (uintptr_t)lasts.at;
     }
     service->has_thread = pthread_create(&service->thread, NULL, inner_driver, service) == 0;
     return service->has_thread ? LIKES_OK : LIKES_NO_THREAD;
 }
 
-static uint32_t open_service(const likes_options *options, likes_service **service) {
+uint32_t likes_service_open(const likes_options *options, likes_service **service) {
     likes_shared shared = {0};
+    int error = errno;
     if (options == NULL || service == NULL)
         return LIKES_NULL;
     if (*service != NULL)
@@ -72,18 +71,12 @@ static uint32_t open_service(const likes_options *options, likes_service **servi
     status = opened == NULL ? (uint32_t)LIKES_NO_MEMORY : begin(opened);
     if (status == LIKES_OK) {
         *service = opened;
-        return status;
+    } else {
+        if (opened != NULL)
+            end(opened);
+        likes_shared_free(&shared);
+        free(opened);
     }
-    if (opened != NULL)
-        end(opened);
-    likes_shared_free(&shared);
-    free(opened);
-    return status;
-}
-
-uint32_t likes_service_open(const likes_options *options, likes_service **service) {
-    int error = errno;
-    uint32_t status = open_service(options, service);
     errno = error;
     return status;
 }
@@ -92,8 +85,9 @@ uint32_t likes_service_open(const likes_options *options, likes_service **servic
 static uint32_t leave(inner_member *member) {
     likes_service *service = member->service;
     for (uint32_t i = 0; i < service->seats; i++)
-        service->places[i].is_leaving = true;
-    inner_seats_work(member);
+        service->seat[i].is_leaving = true;
+    service->work = service->all;
+    inner_work(member);
     pthread_mutex_lock(&service->turning);
     uint32_t status = inner_turn(member, LIKES_END_IF_IT_SERVES);
     inner_stir(member);

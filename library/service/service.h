@@ -4,8 +4,8 @@
  * There is one rule for what is left to others: set a flag, then try; who has what was tried gives it back, then looks
  * at the flag. So either the try succeeds, or the flag is seen.
  *
- *   - A seat: the flags are in its place's word `left`. Each call of a client gives the seat back by a sequentially
- *     consistent store, and the word is loaded after it (place.c).
+ *   - A seat: the flags are its bit of `work`, and its `asleep`. Each call of a client gives the seat back by a
+ *     sequentially consistent store, and they are loaded after it (seat.c).
  *   - The driver: the flag is `wished`, and the right to make turns is a mutex (turns.c).
  *   - The driver's thread sleeps while a number, `call`, is the same. Only this thread rests (thread.c).
  *   - Who waits for a phase sleeps while its number, `released`, is the same as before its call (waits.c).
@@ -34,9 +34,6 @@
 /* What each call uses lies in two lines of a cache, apart from what each call at another seat uses. */
 #define INNER_APART _Alignas(128)
 
-/* Of a place's `left`: phase work is wanted; a thread sleeps until the seat is free. */
-enum { INNER_WORK = 1, INNER_ASLEEP = 2 };
-
 /* A service's `wished`, or 0: a turn is wanted; the thread that makes turns sleeps until one is. */
 enum { INNER_WISHED = 1, INNER_WATCHED = 2 };
 
@@ -46,19 +43,19 @@ enum { INNER_ROW = 64 };
 /* Tags of a host's looks are below these, which are the service's own. */
 #define INNER_TAGS (UINT64_C(1) << 63)
 
-typedef struct inner_place {
-    INNER_APART _Atomic uint32_t left; /* a futex */
-    uint32_t number;                   /* of the seat */
-    _Atomic uint32_t waiting;          /* how many threads wait until it is free */
-    _Atomic uint32_t holds;            /* odd while a thread holds it and is in no call; goes up with each such call */
-    _Atomic bool is_leaving;           /* who does the seat's phase work retires it, if it can */
+typedef struct inner_seat {
+    INNER_APART _Atomic uint32_t asleep; /* 1: a thread sleeps until the seat is free. A futex */
+    uint32_t number;
+    _Atomic uint32_t waiting; /* how many threads wait until it is free */
+    _Atomic uint32_t calls;   /* odd while a thread has locked it and is in no call; goes up with each such call */
+    _Atomic bool is_leaving;  /* who does its phase work retires it, if it can */
     likes_service *service;
-    uintptr_t lasts; /* where the last likes of its users lie, four bytes for each */
-    likes_seat seat; /* of the thread that holds it: the address of this place, and 1 */
+    uintptr_t lasts;   /* where the last likes of its users lie, four bytes for each */
+    likes_seat handle; /* of the thread that has locked it: its address, and 1 */
     /* Of who has the seat locked: how many looks of the host's were asked and not taken, and a ring of found ones. */
     uint32_t hosts, first, length;
     likes_found *found;
-} inner_place;
+} inner_seat;
 
 /* A look of the service that waits. Its tag is its address, with the bit of such tags. */
 typedef struct inner_wait {
@@ -74,9 +71,14 @@ enum { INNER_UNUSED, INNER_ASKED, INNER_FOUND, INNER_THROWN };
 typedef struct inner_member {
     INNER_APART likes_client client;
     likes_service *service;
-    inner_place *held; /* the seat that likes_service_lock gave to the thread */
-    uint64_t locked;   /* the seats that the client has locked. A bit for each */
+    inner_seat *locked; /* the seat that the thread has locked by likes_service_lock */
+    uint64_t has;       /* the seats that the client has locked. A bit for each */
     inner_wait *waits;
+    /* Of a call that waits (waits.c): how often the seat was busy, and the call too late for a phase, one after the other;
+     * a phase that was released before the call; until when it waits for the next one without sleep. */
+    bool is_waiting;
+    uint32_t tries, misses;
+    uint64_t phase, spins_until;
     /* What the thread did, as in likes_statistics. */
     _Atomic uint64_t likes, looks, waited, wait_time, longest_wait, late;
     uint64_t thread;           /* whose it is: a number, or 0. Under the lock of member.c, as */
@@ -88,15 +90,14 @@ struct likes_service {
     uint32_t seats, users, room;
     uint64_t id;      /* no other service has the same */
     uint64_t inverse; /* of `seats`, for inner_remainder */
-    inner_place *places;
+    uint64_t all;     /* the bits of all seats */
+    inner_seat *seat; /* seat[n] is the one with number n */
     size_t pages;
     uint64_t period;                    /* in nanoseconds */
-    INNER_APART _Atomic uint64_t pulse; /* for writers: goes up once in a period, and when the service begins to rest */
+    INNER_APART _Atomic uint64_t pulse; /* for writers: how often the driver's thread went to sleep */
     _Atomic bool is_used;               /* a call was made since the last round */
     _Atomic uint64_t released;          /* the phase that was last released; a futex, by its lower half */
-    _Atomic uint64_t
-        steps; /* how often seats had work to do: when a phase was about to end, and when looks were found */
-    _Atomic uint64_t served;   /* the step at which all seats had theirs, or it was left to who has the seat */
+    _Atomic uint64_t work;     /* the seats whose phase work is to be done. A bit for each, as in `all` */
     _Atomic uint64_t due;      /* when the phase may end */
     _Atomic uint64_t wakes_at; /* until when the driver's thread sleeps. 0: it is awake, or rests */
     _Atomic uint32_t starving; /* how many threads have missed phases, and wait for the next one to make a call */
@@ -124,12 +125,12 @@ static inline size_t inner_remainder(uint32_t number, uint64_t inverse, uint64_t
     return (size_t)(((wide)(inverse * number) * divisor) >> 64);
 }
 
-/* Has the processor fetch the line of a cache that has a user's last like, in place u / seats of them. (A processor that
+/* Has the processor fetch the line of a cache that has a user's last like, number u / seats of them. (A processor that
  * can't does nothing, nor does any where there is no such user.) */
 static inline void inner_fetch(uintptr_t lasts, uint64_t inverse, uint32_t user) {
     __extension__ typedef unsigned __int128 wide;
-    uint64_t place = inverse == 0 ? user : (uint64_t)(((wide)inverse * user) >> 64);
-    const char *at = (const char *)(lasts + 4 * place);
+    uint64_t number = inverse == 0 ? user : (uint64_t)(((wide)inverse * user) >> 64);
+    const char *at = (const char *)(lasts + 4 * number);
 #if defined(__x86_64__)
     __asm__ volatile("prefetchw %0" ::"m"(*at));
 #else
@@ -155,11 +156,11 @@ static inline void inner_note_use(likes_service *service) {
         service->is_used = true;
 }
 
-/* member.c: how many seats a thread holds, and those of its members that it looked for last. It is reached without a
+/* member.c: how many seats a thread has locked, and those of its members that it looked for last. It is reached without a
  * call, also in a shared library. */
 typedef struct inner_thread {
     uint64_t number; /* no other has the same. 0: it has called no service yet */
-    uint32_t held;
+    uint32_t locked;
     struct {
         uint64_t id; /* of a service, or 0 */
         inner_member *member;
@@ -176,102 +177,78 @@ static inline inner_member *inner_member_of(likes_service *service) {
     return is_first ? inner_mine.members[service->id % 8].member : inner_member_find(service);
 }
 
-/* Whether the thread holds a seat of a service. */
-static inline bool inner_holds(likes_service *service) {
-    const inner_member *member = inner_mine.held > 0 ? inner_member_of(service) : NULL;
-    return member != NULL && member->held != NULL;
+/* Whether the thread has locked a seat of a service. */
+static inline bool inner_has_locked(likes_service *service) {
+    const inner_member *member = inner_mine.locked > 0 ? inner_member_of(service) : NULL;
+    return member != NULL && member->locked != NULL;
 }
 
 /* Opens a member for the driver's thread. Closes all, which no thread calls any more. */
 bool inner_members_open(likes_service *service);
 void inner_members_close(const likes_service *service);
 
-/* What is wrong with a call of a thread that may not hold a seat, or LIKES_OK, and then its member. */
+/* What is wrong with a call of a thread that may have locked no seat, or LIKES_OK, and then its member. */
 static inline uint32_t inner_enter(likes_service *service, bool has_null, inner_member **member) {
     if (has_null || service == NULL || !service->is_open)
         return has_null ? LIKES_NULL : service == NULL ? LIKES_NOT_STARTED : LIKES_STOPPED;
     *member = inner_member_of(service);
     if (*member == NULL)
         return LIKES_NO_MEMORY;
-    return (*member)->held != NULL ? LIKES_HOLDS_SEAT : LIKES_OK;
+    return (*member)->locked != NULL ? LIKES_HOLDS_SEAT : LIKES_OK;
 }
 
-/* place.c: does what others left at a place, and wakes the driver's thread where it rests. */
-void inner_attend(inner_member *member, inner_place *place);
+/* seat.c: does what others left at a seat, and wakes the driver's thread where it rests. */
+void inner_attend(inner_member *member, inner_seat *seat);
 
 /* After each call of a client at a seat. */
-static inline void inner_after(inner_member *member, inner_place *place) {
-    bool is_resting = member->service->is_resting;
-    if (__builtin_expect(place->left != 0 || is_resting, false))
-        inner_attend(member, place);
+static inline void inner_after(inner_member *member, inner_seat *seat) {
+    const likes_service *service = member->service;
+    bool has_work = service->work >> seat->number & 1, is_resting = service->is_resting;
+    if (__builtin_expect(has_work || seat->asleep != 0 || is_resting, false))
+        inner_attend(member, seat);
 }
 
-/* Does the phase work of all seats, or leaves it to who has the seat. */
-void inner_seats_work(inner_member *member);
+/* Does the phase work that is to be done, or leaves it to who has the seat. Whether it did any. */
+bool inner_work(inner_member *member);
 
-/* Locks a seat for this client, if it is free: LIKES_OK or LIKES_BUSY. Unlocks it, and does what was left. */
-uint32_t inner_lock(inner_member *member, inner_place *place);
-void inner_unlock(inner_member *member, inner_place *place);
+/* Whether this client has a seat locked. Locks it, if it is free: LIKES_OK or LIKES_BUSY. Unlocks it, and does what was
+ * left. */
+static inline bool inner_has(const inner_member *member, const inner_seat *seat) {
+    return (member->has >> seat->number & 1) != 0;
+}
+uint32_t inner_lock(inner_member *member, inner_seat *seat);
+void inner_unlock(inner_member *member, inner_seat *seat);
 
 /* Takes the next found look of the host's, at a seat that the thread has locked. */
-bool inner_take_found(inner_member *member, inner_place *place, likes_found *found);
+bool inner_take_found(inner_member *member, inner_seat *seat, likes_found *found);
 
-/* waits.c: a call of a client at a seat, which is made again until it is answered. */
-typedef struct inner_trial {
-    inner_member *member;
-    inner_place *place;
-    uint64_t until; /* when it is too late, or INNER_NEVER */
-    uint64_t phase; /* one that was released before the call */
-    /* From the first wait on: how often the seat was busy, and the call too late for a phase, one after the other; what
-     * the place's word was, where the thread waits for the seat. */
-    bool has_waited;
-    uint32_t tries, misses, left;
-    uint64_t spins_until;
-} inner_trial;
+/* waits.c: waits, where a call of a client wasn't answered, since its seat is busy or between two phases, or looks fill it.
+ * Whether it has to be made again. Or it is too late, which is what `until` says: LIKES_LATE. */
+bool inner_wait_on(inner_member *member, inner_seat *seat, uint64_t until, uint32_t *status);
 
-static inline void inner_start(inner_trial *it, inner_member *member, inner_place *place, uint64_t until) {
-    it->member = member;
-    it->place = place;
-    it->until = until;
-    it->phase = member->service->released;
-    it->has_waited = false;
+/* After a call of a client at a seat: whether it has to be made again. */
+static inline bool inner_again(inner_member *member, inner_seat *seat, uint64_t until, uint32_t *status) {
+    bool is_busy = *status == LIKES_BUSY, is_early = *status == LIKES_BETWEEN || *status == LIKES_NO_ROOM;
+    if (!is_busy)
+        inner_after(member, seat);
+    return __builtin_expect(is_busy || is_early || member->is_waiting, false) &&
+           inner_wait_on(member, seat, until, status);
 }
 
-/* The status of a call that wasn't made yet. */
-#define INNER_UNTRIED UINT32_MAX
-
-/* Whether a call has its answer. Else it has to be made again: the seat is busy, or between two phases, or looks fill it.
- */
-static inline bool inner_is_answered(uint32_t status) {
-    return status != LIKES_BUSY && status != LIKES_BETWEEN && status != LIKES_NO_ROOM;
-}
-
-/* Waits, where a call wasn't answered. Whether it has to be made again. Or it is too late: LIKES_LATE. */
-bool inner_wait_and_try(inner_trial *it, uint32_t *status);
-
-/* Whether a call has to be made, the first time or again. */
-static inline bool inner_again(inner_trial *it, uint32_t *status) {
-    if (*status == INNER_UNTRIED)
-        return true;
-    if (*status != LIKES_BUSY)
-        inner_after(it->member, it->place);
-    return __builtin_expect(!inner_is_answered(*status) || it->has_waited, false) && inner_wait_and_try(it, status);
-}
-
-/* Begins a call of a user, by a thread that may not hold a seat: LIKES_OK, and its member and the user's place; or what
+/* Begins a call of a user, by a thread that may have locked none: LIKES_OK, and its member and the user's seat; or what
  * is wrong with it. */
 static inline uint32_t inner_begin(likes_service *service, uint32_t user, bool has_null, inner_member **member,
-                                   inner_place **place) {
+                                   inner_seat **seat) {
     uint32_t fault = inner_enter(service, has_null, member);
     if (fault != LIKES_OK)
         return fault;
     inner_note_use(service);
-    *place = &service->places[inner_remainder(user, service->inverse, service->seats)];
+    *seat = &service->seat[inner_remainder(user, service->inverse, service->seats)];
     return LIKES_OK;
 }
 
 /* Locks a seat for this client, until a time. Whether it could. */
-bool inner_hold(inner_member *member, inner_place *place, uint64_t until);
+bool inner_lock_until(inner_member *member, inner_seat *seat, uint64_t until);
 
 /* Waits until a phase after this one is released, or until a time: whether one is. */
 bool inner_await_phase(inner_member *member, uint64_t phase, uint64_t until);
@@ -282,9 +259,9 @@ uint32_t inner_turns(inner_member *member);
 
 /* After looks of the host's that may wait: makes turns where they pass a multiple of 16, or take half of the room, which
  * ends the phase if they all wait. Other threads' looks at the seat are not among them: those make turns of their own. */
-static inline void inner_looks_wait(inner_member *member, const inner_place *place, uint32_t before) {
-    uint32_t now = place->hosts;
-    if (now > before && (now / 16 > before / 16 || 2 * now >= place->service->room))
+static inline void inner_looks_wait(inner_member *member, const inner_seat *seat, uint32_t before) {
+    uint32_t now = seat->hosts;
+    if (now > before && (now / 16 > before / 16 || 2 * now >= seat->service->room))
         inner_turns(member);
 }
 
@@ -299,20 +276,20 @@ void inner_stir(inner_member *member);
 void *inner_driver(void *service);
 void inner_call(likes_service *service);
 
-/* locked.c: what is wrong with a call at a seat that the thread has to hold, or LIKES_OK, and then its member. */
-uint32_t inner_held_fault(likes_service *service, uint32_t number, inner_member **member);
+/* locked.c: what is wrong with a call at a seat that the thread has to have locked, or LIKES_OK, and then its member. */
+uint32_t inner_locked_fault(likes_service *service, uint32_t number, inner_member **member);
 
-/* Makes a look at a seat that the thread holds: an answer of likes_seat_look, or LIKES_WRONG_TAG. */
-uint32_t inner_look(inner_member *member, inner_place *place, const likes_request *request, likes_answer *answer);
+/* Makes a look at a seat that the thread has locked: an answer of likes_seat_look, or LIKES_WRONG_TAG. */
+uint32_t inner_look(inner_member *member, inner_seat *seat, const likes_request *request, likes_answer *answer);
 
-/* Runs requests at a seat that the thread holds, up to one that has no room, through changes of phases if it waits. It
+/* Runs requests at a seat that the thread has locked, up to one that has no room, through changes of phases if it waits. It
  * gives the number of those done. */
-size_t inner_run(inner_member *member, inner_place *place, const likes_request *requests, size_t length,
+size_t inner_run(inner_member *member, inner_seat *seat, const likes_request *requests, size_t length,
                  likes_answer *answers, bool waits);
 
-/* Notes that a thread calls a seat that it holds. */
-static inline void inner_note_call(inner_place *place, uint32_t steps) {
-    atomic_store_explicit(&place->holds, place->holds + steps, memory_order_relaxed);
+/* Notes that a thread calls a seat that it has locked. */
+static inline void inner_note_call(inner_seat *seat, uint32_t steps) {
+    atomic_store_explicit(&seat->calls, seat->calls + steps, memory_order_relaxed);
 }
 
 #endif

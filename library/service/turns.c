@@ -32,7 +32,7 @@ uint32_t inner_turn(inner_member *member, uint32_t end) {
     if (status == LIKES_ANNOUNCED || status == LIKES_RELEASED)
         service->is_ending = status == LIKES_ANNOUNCED;
     if (status == LIKES_ANNOUNCED || (status == LIKES_RELEASED && service->released % 2 == 0))
-        service->steps = service->steps + 1;
+        service->work = service->all;
     return status;
 }
 
@@ -105,13 +105,10 @@ static uint32_t make_turns(inner_member *member) {
 /* Others may make turns while this thread does the seats' work, also what others have begun: they may have no processor.
  * After that it makes another turn. */
 uint32_t inner_turns(inner_member *member) {
-    likes_service *service = member->service;
-    uint32_t status = wish(service) ? make_turns(member) : (uint32_t)LIKES_NOT_ALL_IN;
-    while (service->served != service->steps) {
-        inner_seats_work(member);
-        if (wish(service))
+    uint32_t status = wish(member->service) ? make_turns(member) : (uint32_t)LIKES_NOT_ALL_IN;
+    while (inner_work(member))
+        if (wish(member->service))
             make_turns(member);
-    }
     return status;
 }
 
@@ -127,7 +124,7 @@ void inner_stir(inner_member *member) {
     inner_call(service);
 }
 
-/* These two may be called by a thread that holds a seat. */
+/* These two may be called by a thread that has locked a seat. */
 uint32_t likes_service_drive(likes_service *service) {
     inner_member *member;
     uint32_t fault = inner_enter(service, false, &member);
@@ -144,6 +141,6 @@ void likes_service_seat_turns(likes_service *service) {
     uint32_t fault = inner_enter(service, false, &member);
     if (fault != LIKES_OK && fault != LIKES_HOLDS_SEAT)
         return;
-    inner_seats_work(member);
+    service->work = service->all;
     inner_turns(member);
 }

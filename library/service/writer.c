@@ -1,8 +1,8 @@
 /* Writers: each keeps likes in rows, one for each seat, and hands a row over as a whole.
  *
- * A row is handed over when it is full, and else by the service's pulse, a number that the driver's thread raises once in
- * a period, and when the service begins to rest. A call that sees another one hands over all rows: so none is kept for
- * longer than about a period, as long as the writer is called, and a call reads no clock. */
+ * A row is handed over when it is full, and else by the service's pulse, a number that goes up before the driver's thread
+ * sleeps: about once in a period, and no rest begins without one after each like. A call that sees another one hands over
+ * all rows: so none is kept for longer than about a period, as long as the writer is called, and a call reads no clock. */
 #include "service.h"
 
 #include <stdlib.h>
@@ -20,28 +20,27 @@ static inline size_t seat_of(const likes_writer *writer, uint32_t user) {
 }
 
 /* Hands a row over: LIKES_OK, or why likes stay kept. */
-static uint32_t hand_over(likes_writer *writer, size_t seat) {
-    likes_pair *row = writer->rows[seat];
+static uint32_t hand_over(likes_writer *writer, size_t number) {
+    likes_pair *row = writer->rows[number];
     inner_member *member;
-    inner_place *place;
-    inner_trial trial;
-    size_t length = writer->lengths[seat], done = 0, counted;
+    inner_seat *seat;
+    size_t length = writer->lengths[number], done = 0, counted;
     if (length == 0)
         return LIKES_OK;
-    uint32_t status = inner_begin(writer->service, row->user, false, &member, &place);
+    uint32_t status = inner_begin(writer->service, row->user, false, &member, &seat);
     if (status != LIKES_OK)
         return status;
-    status = INNER_UNTRIED;
-    inner_start(&trial, member, place, INNER_NEVER);
     for (size_t i = 0; i < length; i++)
-        inner_fetch(place->lasts, writer->service->inverse, row[i].user);
-    for (; inner_again(&trial, &status); done += counted)
-        status = likes_client_like_row(&member->client, place->number, row + done, length - done, &counted);
+        inner_fetch(seat->lasts, writer->service->inverse, row[i].user);
+    do {
+        status = likes_client_like_row(&member->client, seat->number, row + done, length - done, &counted);
+        done += counted;
+    } while (inner_again(member, seat, INNER_NEVER, &status));
     inner_add(&member->likes, done);
     memmove(row, row + done, (length - done) * sizeof *row);
-    writer->lengths[seat] = (uint8_t)(length - done);
+    writer->lengths[number] = (uint8_t)(length - done);
     if (done == length)
-        writer->begun &= ~(UINT64_C(1) << seat);
+        writer->begun &= ~(UINT64_C(1) << number);
     return status == LIKES_LIKED ? (uint32_t)LIKES_OK : status;
 }
 
@@ -69,7 +68,7 @@ static void notice(likes_writer *writer) {
 static inline uint32_t fault_of(const likes_writer *writer) {
     if (writer == NULL)
         return LIKES_NOT_STARTED;
-    return inner_holds(writer->service) ? (uint32_t)LIKES_HOLDS_SEAT : (uint32_t)LIKES_OK;
+    return inner_has_locked(writer->service) ? (uint32_t)LIKES_HOLDS_SEAT : (uint32_t)LIKES_OK;
 }
 
 uint32_t likes_writer_open(likes_service *service, likes_writer **writer) {
@@ -88,25 +87,18 @@ uint32_t likes_writer_open(likes_service *service, likes_writer **writer) {
     made->service = service;
     made->pulse = service->pulse;
     service->writers += 1;
-    /* From now on the driver's thread sleeps until the next pulse at most. */
+    /* If the service rests, there is no pulse. */
     inner_note_use(service);
     inner_call(service);
     *writer = made;
     return LIKES_OK;
 }
 
-/* Hands over a row that is full, and makes the driver's turn, if one is due: the writer may have the only processor. */
-static uint32_t hand_over_full(likes_writer *writer, size_t seat) {
-    uint32_t status = hand_over(writer, seat);
-    likes_service_tick(writer->service);
-    return status;
-}
-
-static inline void keep(likes_writer *writer, size_t seat, uint32_t user, uint32_t page) {
-    uint8_t length = writer->lengths[seat]++;
-    writer->rows[seat][length] = (likes_pair){user, page};
+static inline void keep(likes_writer *writer, size_t number, uint32_t user, uint32_t page) {
+    uint8_t length = writer->lengths[number]++;
+    writer->rows[number][length] = (likes_pair){user, page};
     if (length == 0)
-        writer->begun |= UINT64_C(1) << seat;
+        writer->begun |= UINT64_C(1) << number;
 }
 
 /* A like with which there is more to do than to keep it. */
@@ -121,12 +113,15 @@ INNER_SELDOM static uint32_t like_slowly(likes_writer *writer, uint32_t user, ui
     inner_note_use(writer->service);
     if (writer->service->pulse != writer->pulse)
         notice(writer);
-    size_t seat = seat_of(writer, user);
-    if (writer->lengths[seat] == INNER_ROW && (fault = hand_over_full(writer, seat)) != LIKES_OK)
+    size_t number = seat_of(writer, user);
+    if (writer->lengths[number] == INNER_ROW && (fault = hand_over(writer, number)) != LIKES_OK)
         return fault;
-    keep(writer, seat, user, page);
-    if (writer->lengths[seat] == INNER_ROW)
-        hand_over_full(writer, seat);
+    keep(writer, number, user, page);
+    if (writer->lengths[number] < INNER_ROW)
+        return LIKES_OK;
+    /* The writer may have the only processor, so it makes the driver's turn, if one is due. */
+    hand_over(writer, number);
+    likes_service_tick(writer->service);
     return LIKES_OK;
 }
 
@@ -134,19 +129,19 @@ uint32_t likes_writer_like(likes_writer *writer, uint32_t user, uint32_t page) {
     if (writer == NULL)
         return LIKES_NOT_STARTED;
     const likes_service *service = writer->service;
-    size_t seat = seat_of(writer, user);
-    bool is_plain = inner_mine.held == 0 && user < service->users && page < service->pages && service->is_used &&
-                    service->pulse == writer->pulse && writer->lengths[seat] < INNER_ROW - 1;
+    size_t number = seat_of(writer, user);
+    bool is_plain = inner_mine.locked == 0 && user < service->users && page < service->pages && service->is_used &&
+                    service->pulse == writer->pulse && writer->lengths[number] < INNER_ROW - 1;
     if (!is_plain)
         return like_slowly(writer, user, page);
-    keep(writer, seat, user, page);
+    keep(writer, number, user, page);
     return LIKES_OK;
 }
 
-static bool has_page(const likes_writer *writer, size_t seat, uint32_t page) {
+static bool has_page(const likes_writer *writer, size_t number, uint32_t page) {
     uint32_t found = 0;
-    for (size_t i = 0; i < writer->lengths[seat]; i++)
-        found |= writer->rows[seat][i].page == page;
+    for (size_t i = 0; i < writer->lengths[number]; i++)
+        found |= writer->rows[number][i].page == page;
     return found;
 }
 
@@ -154,8 +149,8 @@ static bool has_page(const likes_writer *writer, size_t seat, uint32_t page) {
 static uint64_t seats_with(const likes_writer *writer, uint32_t user, uint32_t page) {
     uint64_t found = UINT64_C(1) << seat_of(writer, user);
     for (uint64_t seats = writer->begun; seats != 0; seats &= seats - 1) {
-        size_t seat = (size_t)__builtin_ctzll(seats);
-        found |= (uint64_t)has_page(writer, seat, page) << seat;
+        size_t number = (size_t)__builtin_ctzll(seats);
+        found |= (uint64_t)has_page(writer, number, page) << number;
     }
     return found;
 }
@@ -180,9 +175,9 @@ uint32_t likes_writer_flush(likes_writer *writer) {
 
 size_t likes_writer_drop(likes_writer *writer) {
     size_t dropped = 0;
-    for (size_t seat = 0; writer != NULL && seat < writer->service->seats; seat++) {
-        dropped += writer->lengths[seat];
-        writer->lengths[seat] = 0;
+    for (size_t number = 0; writer != NULL && number < writer->service->seats; number++) {
+        dropped += writer->lengths[number];
+        writer->lengths[number] = 0;
         writer->begun = 0;
     }
     return dropped;

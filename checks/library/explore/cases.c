@@ -107,7 +107,7 @@ static void full(void) {
     inner_member *member = inner_member_of(explored);
     likes_client_look(&member->client, 0, 0, 0, 1, &answer);
     likes_client_look(&member->client, 0, 0, 0, 2, &answer);
-    explored->places[0].hosts = 2;
+    explored->seat[0].hosts = 2;
 }
 
 /* A thread's member is made before its calls. */
@@ -124,18 +124,20 @@ static inner_member *begin(uint32_t user) {
 
 static void hold(void) {
     inner_member *member = begin(USERS);
-    inner_hold(member, &explored->places[0], INNER_NEVER);
-    inner_unlock(member, &explored->places[0]);
+    inner_lock_until(member, &explored->seat[0], INNER_NEVER);
+    inner_unlock(member, &explored->seat[0]);
 }
 
 static void hold_late(void) {
     inner_member *member = begin(USERS);
-    if (inner_hold(member, &explored->places[0], model_time()))
-        inner_unlock(member, &explored->places[0]);
+    if (inner_lock_until(member, &explored->seat[0], model_time()))
+        inner_unlock(member, &explored->seat[0]);
 }
 
 static void leave_work(void) {
-    inner_seats_work(begin(USERS));
+    inner_member *member = begin(USERS);
+    explored->work = explored->all;
+    inner_work(member);
 }
 
 static void turn(void) {
@@ -153,24 +155,31 @@ static void stir(void) {
     inner_stir(member);
 }
 
+/* The thread's call has missed phases, and waits. */
+static inner_member *miss(void) {
+    inner_member *member = begin(USERS);
+    member->is_waiting = true;
+    member->misses = 8;
+    __atomic_fetch_add(&explored->starving, 1, __ATOMIC_SEQ_CST);
+    return member;
+}
+
 /* A look whose thread has missed phases, and now finds no room in one. */
 static void look_after_misses(void) {
-    inner_trial it = {begin(USERS), &explored->places[0], INNER_NEVER, .misses = 8, .has_waited = true};
+    inner_member *member = miss();
     uint32_t status = LIKES_NO_ROOM;
-    __atomic_fetch_add(&explored->starving, 1, __ATOMIC_SEQ_CST);
     begin_call("a look after misses", 2 * PERIOD);
-    while (inner_again(&it, &status))
-        status = likes_client_look(&it.member->client, 0, 0, 0, 3, &answers[0]);
+    while (inner_again(member, &explored->seat[0], INNER_NEVER, &status))
+        status = likes_client_look(&member->client, 0, 0, 0, 3, &answers[0]);
     end_call();
 }
 
 /* A like whose thread has missed phases, and now finds its seat busy. */
 static void like_after_misses(void) {
-    inner_trial it = {begin(USERS), &explored->places[0], INNER_NEVER, .misses = 8, .has_waited = true};
+    inner_member *member = miss();
     uint32_t status = LIKES_BUSY;
-    __atomic_fetch_add(&explored->starving, 1, __ATOMIC_SEQ_CST);
-    while (inner_again(&it, &status))
-        status = likes_client_like(&it.member->client, 0, 0, 1);
+    while (inner_again(member, &explored->seat[0], INNER_NEVER, &status))
+        status = likes_client_like(&member->client, 0, 0, 1);
 }
 
 /* A thread holds its seat, and calls it, until a look of its own is found. */

@@ -118,7 +118,7 @@ static bool is_dull(const volatile void *at) {
     if (explored == NULL)
         return false;
     for (uint32_t i = 0; i < explored->seats; i++)
-        is |= at == &explored->places[i].holds;
+        is |= at == &explored->seat[i].calls;
     const inner_member *member = inner_mine.members[explored->id % 8].member;
     const char *begin = member == NULL ? NULL : (const char *)&member->likes;
     return is || (begin != NULL && byte >= begin && byte <= (const char *)&member->late);
@@ -511,19 +511,19 @@ static bool sleeps_at(uint32_t number, const void *at) {
     return state.all[number].wait == FUTEX && state.all[number].object == at;
 }
 
-/* What is left at a place that no thread has, where all sleep. */
-static void check_place(const inner_place *place) {
-    uint32_t seat = place->number;
-    if (!stub_is_free(&explored->shared, seat))
+/* What is left at a seat that no thread has, where all sleep. */
+static void check_seat(const inner_seat *seat) {
+    uint32_t number = seat->number;
+    if (!stub_is_free(&explored->shared, number))
         return;
     for (uint32_t i = 0; i < state.threads; i++)
-        if (sleeps_at(i, (const void *)&place->left))
+        if (sleeps_at(i, (const void *)&seat->asleep))
             note("a thread sleeps at a free seat", 0);
-    if (place->left & INNER_WORK)
+    if (explored->work >> number & 1)
         note("work is left at a free seat", 0);
-    if (stub_has_work(&explored->shared, seat))
+    if (stub_has_work(&explored->shared, number))
         note("phase work is left at a free seat", 0);
-    if (stub_has_found(&explored->shared, seat))
+    if (stub_has_found(&explored->shared, number))
         note("a found look isn't told", 0);
 }
 
@@ -546,7 +546,7 @@ static void check_driver(void) {
 /* Where all sleep, is there something to do? */
 static void check_still(void) {
     for (uint32_t i = 0; i < explored->seats; i++)
-        check_place(&explored->places[i]);
+        check_seat(&explored->seat[i]);
     for (uint32_t i = 0; i < state.threads; i++)
         if (state.all[i].call != NULL && state.now - state.lost - state.all[i].began > state.all[i].most)
             note(state.all[i].call, state.now - state.lost - state.all[i].began);
