@@ -9,7 +9,7 @@ use Rattle.like_serial.specs.Laws.{SerialIsBetween}
 use Rattle.like_promises.specs.Serial.{IsSerial, run_of}
 use Rattle.like_serial.proofs.OneThread.{one_thread_is_serial}
 use Rattle.like_serial.proofs.Counts.{likes-weigh, likes_by}
-use Rattle.like_serial.proofs.Growth.{count_at_is}
+use Rattle.like_serial.proofs.Growth.{count_at_is, within-weigh}
 use Rattle.like_serial.proofs.Interleaved.{with_key}
 use Rattle.like_serial.proofs.Parts.{at_place, passed, place_of_part, take_part}
 use Rattle.like_serial.proofs.Phases.{Rises, above, all_above, all_then, not_below, rises_of}
@@ -126,11 +126,6 @@ module _ (workload : Workload) (workers : ℕ) (runs : List (List Ran)) (serial 
       → count_at workload serial page phase ≡ initial_count workload.pages page + weigh (early phase) serial
   before-serial phase = count_at_is workload serial page phase
 
-  within-weigh : (xs : List Ran) (phase : ℕ) → likes_within workload page xs phase ≡ weigh (now phase) xs
-  within-weigh xs phase =
-      likes-weigh workload page (with_key phase_of phase xs)
-      ∙ weigh-filter (λ (e : Ran). e.phase == phase) counted xs
-
   bounds : (before : List Ran) (e : Ran) (after mine yours : List Ran) (w : ℕ)
       → serial ≡ before ++ e ∷ after
       → with_key (server_of workers) w before ≡ mine
@@ -174,11 +169,11 @@ module _ (workload : Workload) (workers : ℕ) (runs : List (List Ran)) (serial 
       ap (count_at workload serial page) (add-one k) ∙ before-serial (suc k)
       in
       let own : likes_within workload page mine k ≤ weigh (now k) before =
-      subst (λ n. n ≤ weigh (now k) before) (ap (weigh (now k)) fronts ∙ sym (within-weigh mine k))
+      subst (λ n. n ≤ weigh (now k) before) (ap (weigh (now k)) fronts ∙ sym (within-weigh workload page mine k))
       (weigh-filter_less (λ (d : Ran). server_of workers d == w) (now k) before)
       in
       let rest : likes_within workload page yours k ≤ weigh (now k) after =
-      subst (λ n. n ≤ weigh (now k) after) (ap (weigh (now k)) rests ∙ sym (within-weigh yours k))
+      subst (λ n. n ≤ weigh (now k) after) (ap (weigh (now k)) rests ∙ sym (within-weigh workload page yours k))
       (weigh-filter_less (λ (d : Ran). server_of workers d == w) (now k) after)
       in
       record { lower = omega arith; upper = omega arith }

@@ -15,6 +15,7 @@ use Rattle.like_serial.specs.StepsTold.{is_plain, step_ran, steps_ran, step_told
 use Rattle.like_serial.proofs.OneThread.{serial_is_one_thread}
 use Rattle.like_serial.proofs.Answers.{answers_of_own}
 use Rattle.like_serial.proofs.Counts.{likes-weigh, likes_by, look_shows}
+use Rattle.like_serial.proofs.Growth.{within-weigh}
 use Rattle.like_serial.proofs.Interleaved.{Interleaved, interleaved, with_key}
 use Rattle.like_serial.proofs.Parts.{Passed, at_place, passed}
 use Rattle.like_serial.proofs.Phases.{InBlock, above, all_above, all_rec, filter-swap, in_block, pairs_of, rises_of, sorted, sorted-key, sorted-rises, sorted-same}
@@ -103,8 +104,7 @@ module _ (workload : Workload) (workers last : ℕ) (runs : List (List Ran)) (st
         ∙ sym (weigh-filter (λ (s : PageStep). s.phase == phase) (adds_to page) (own_steps w steps))
         ∙ sym (sum-weigh (adds_to page) (filter (λ (s : PageStep). s.phase == phase) (own_steps w steps)))
         ∙ (each w).by_phase phase page
-        ∙ likes-weigh workload page (with_key phase_of phase (run_of runs w))
-        ∙ weigh-filter (λ (e : Ran). e.phase == phase) (likes_by workload page) (run_of runs w)
+        ∙ within-weigh workload page (run_of runs w) phase
         ∙ ap (weigh (λ (e : Ran). only (e.phase == phase) (likes_by workload page e))) (sym (m.own w))
         ∙ weigh-filter (λ (e : Ran). server_of workers e == w)
         (λ e. only (e.phase == phase) (likes_by workload page e)) m.entries

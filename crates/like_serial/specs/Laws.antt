@@ -1,13 +1,14 @@
 -- The laws of run lists, and of reports by a store.
-use Rattle.std.specs.Prelude.{◌≡◌, ℕ, List, map}
+use Rattle.std.specs.Prelude.{◌≡◌, ℕ, ◌+◌, List, map}
 use Rattle.like_requests.specs.declared.request.Request.{Request}
 use Rattle.like_requests.specs.declared.setup.Setup.{Setup}
 use Rattle.like_promises.specs.declared.log.Ran.{Ran}
 use Rattle.like_promises.specs.declared.report.Report.{Report}
 use Rattle.like_promises.specs.Asked.{asks}
 use Rattle.like_promises.specs.EndToEnd.{IsRightReport}
+use Rattle.like_promises.specs.Likes.{likes_within}
 use Rattle.like_promises.specs.Replies.{HasRightAnswers, HasRightCounts}
-use Rattle.like_promises.specs.Report.{IsRunOf, workload_by}
+use Rattle.like_promises.specs.Report.{IsRunOf, grew, workload_by}
 use Rattle.like_promises.specs.RunStore.{start}
 use Rattle.like_promises.specs.Serial.{HasExactCounts, HasOneOrder, IsSerial, run_of}
 use Rattle.like_promises.specs.Store.{replies}
@@ -47,3 +48,12 @@ abbrev pub OneThreadIsRight : Type 0
 OneThreadIsRight =
     (setup : Setup) (plans : List (List Request)) (r : Report) (serial : List Ran)
     → IsRunOf (workload_by setup plans serial) setup.workers r serial → IsRightReport setup plans r
+
+-- a page is hot by how much its count grew: by as many likes of it as ran in the two phases before, or in phase 0 before
+-- phase 1
+abbrev pub GrowthIsLikes : Type 0
+GrowthIsLikes =
+    (workload : Workload) (entries : List Ran) (phase page : ℕ)
+    → (grew workload entries 1 page ≡ likes_within workload page entries 0)
+    × (grew workload entries (phase + 2) page
+    ≡ likes_within workload page entries phase + likes_within workload page entries (phase + 1))

@@ -1,6 +1,6 @@
 //! The laws of one order. Each is the contract of a function that does nothing.
 ghost use Rattle.like_serial.specs.Example.{CrossedLooksHaveNoOrder, OrderedLooksFit};
-ghost use Rattle.like_serial.specs.Laws.{OneThreadIsRight, OneThreadIsSerial, RightIsOneThread, RunsAreSerial, SerialIsBetween};
+ghost use Rattle.like_serial.specs.Laws.{GrowthIsLikes, OneThreadIsRight, OneThreadIsSerial, RightIsOneThread, RunsAreSerial, SerialIsBetween};
 ghost use Rattle.like_serial.specs.OneSees.{OneSeesTheOther};
 
 /// Of two workers that each add to a page and then read the other's page, one at least reads the other's likes.
@@ -27,6 +27,12 @@ pub fn right_is_one_thread()
 /// answer by its worker's entries before it, and the bounds of each count follow from it.
 pub fn one_thread_is_right()
     ensures { OneThreadIsRight }
+{}
+
+/// A page is hot by how much its count grew in the two phases before: by as many likes of it as ran in them. Before phase
+/// 1 there is one phase.
+pub fn growth_is_likes()
+    ensures { GrowthIsLikes }
 {}
 
 /// Each count in the run lists has the bounds of its phase.
