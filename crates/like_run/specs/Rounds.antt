@@ -1,5 +1,5 @@
 -- A replay: which entries a crew can make, how it ends, and why there is no report.
-use Rattle.std.specs.Prelude.{◌≡◌, ◌⊎◌, ◌<◌, ℕ, List, length, All, ⊤}
+use Rattle.std.specs.Prelude.{◌≡◌, ◌⊎◌, ◌<◌, List, length, All, ⊤}
 use Rattle.std.specs.List.{AllZip}
 use Rattle.like_requests.specs.Setup.{IsFirstBroken, IsWithinLimits}
 use Rattle.like_requests.specs.declared.request.Request.{Request}
@@ -54,11 +54,11 @@ pub record IsUnfinished (setup : Setup) (plans : List (List Request)) (script : 
   pub not_ended : HasNotEnded script start
   pub long : MayLast setup.turns (items_of plans) setup.workers max_rounds
 
--- no fault of the settings, the lists or the script: memory ran out, or the run is unfinished, which says this
+-- no fault of the settings, the lists or the script: memory ran out, or the replay is unfinished, and P holds
 abbrev pub IsReplayFaultUnderWay : Type 0 → ReplayFault → Type 0
-IsReplayFaultUnderWay Unfinishing (Settings why) = ⊥
-IsReplayFaultUnderWay Unfinishing Memory = ⊤
-IsReplayFaultUnderWay Unfinishing Unfinished = Unfinishing
+IsReplayFaultUnderWay P (Settings why) = ⊥
+IsReplayFaultUnderWay P Memory = ⊤
+IsReplayFaultUnderWay P Unfinished = P
 
 -- the first limit that the settings and the lists break, or else the first entry of the script whose submitter or
 -- worker doesn't exist; or else memory ran out, or the run did not end in the most rounds
