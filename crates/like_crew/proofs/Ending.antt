@@ -1,28 +1,22 @@
--- How a run comes to its end.
+-- The crew of a run, later.
 use Rattle.std.proofs.Common.{◌≡◌, ℕ, ◌+◌, ◌*◌, ◌/◌, ◌%◌, ◌<◌, Bool, List, [], length, get_or, slice_get, Some, sym, ap, ◌∙◌, subst, arith, zero-add}
 use Rattle.std.specs.List.{AllZip, range_with_len}
 use Rattle.std.proofs.Math.Nat.{div-add-mod}
 use Rattle.std.proofs.lemmas.List.{length-map}
 use Rattle.std.proofs.lemmas.List.FromFn.{length-range_with_len}
 use Rattle.std.proofs.lemmas.Option.{slice_get-get_or, slice_get_within}
-use Rattle.like_board.specs.Seats.{board_id, board_numbers}
 use Rattle.like_tables.specs.Share.{Share, place_of}
 use Rattle.like_promises.specs.Workload.{Workload, submitters, workload_of}
-use Rattle.like_crew.specs.declared.ended.Ended.{Ended}
-use Rattle.like_crew.specs.declared.site.Site.{Site}
-use Rattle.like_crew.specs.Crew.{CrewView, HasInbox, IsCrew}
-use Rattle.like_crew.specs.Ended.{HasEnded, IsEnded}
+use Rattle.like_crew.specs.Crew.{CrewView, GoesOn, HasInbox, IsCrewAt}
 use Rattle.like_requests.specs.declared.request.Request.{Request}
 use Rattle.like_requests.specs.declared.setup.Setup.{Setup}
-use Rattle.like_core.specs.declared.view.CoordSeatView.{CoordSeatView}
-use Rattle.like_roles.specs.coordinator.Choice.{AreTotals, HasChosen}
 use Rattle.like_crew.specs.Servers.{AreServers, IsServer}
 use Rattle.like_crew.specs.Server.{ServerGoesOn, ServerView, plans_of}
 use Rattle.like_crew.proofs.servers.Shares.{plan-at}
 use Rattle.like_crew.proofs.lists.Pairs.{pairs-at, pairs-both, pairs-length}
 
 -- the servers of a run, later
-pub servers-later : (workload : Workload) (workers : ℕ) (board : List ℕ) (notes : Bool) (ss ts : List ServerView)
+servers-later : (workload : Workload) (workers : ℕ) (board : List ℕ) (notes : Bool) (ss ts : List ServerView)
     → AreServers workload workers board notes ss
     → AllZip ServerGoesOn ss ts
     → AreServers workload workers board notes ts
@@ -90,25 +84,14 @@ has-inbox workload workers board notes servers submitter are some there =
       by_place n w a b same mine =
           ap (λ x. w + x * (n / x)) same ∙ (let d : b * (n / b) + n % b ≡ n = div-add-mod n b in omega (arith, d, mine))
 
--- a crew of this run that went on until its run had ended leaves an ended run
-pub has-ended : (setup : Setup) (plans : List (List Request)) (site : Site) (c : CrewView) (e : Ended)
-    → IsCrew setup plans site c
-    → HasEnded c e
-    → IsEnded setup plans site e
-has-ended setup plans site c e is h = record {
-  servers = h.left.servers;
-  are_servers = servers-later (workload_of setup plans) setup.workers
-      (board_numbers (board_id site.board)) site.notes c.servers h.left.servers is.crew.servers h.left.later;
-  gone = h.left.gone;
-  logs = h.left.logs_are;
-  seats = h.left.seats_are;
-  coord = h.coordinator_is.coord ∙ h.later.board ∙ is.board;
-  opening = ap (λ (v : CoordSeatView). v.opening) h.coordinator_is.view ∙ h.later.opening ∙ is.crew.opening;
-  phases = h.coordinator_is.phases ∙ h.coordinator_is.ended.phase ∙ ap (λ (v : CoordSeatView). v.phase) (sym h.coordinator_is.view);
-  joined = subst (λ n. n % 2 ≡ 0) (sym h.coordinator_is.phases) h.coordinator_is.ended.joined;
-  choice = h.coordinator.choice;
-  hot = h.later.hot ∙ is.crew.hot;
-  chosen = h.coordinator_is.chosen;
-  chose = subst (λ (v : CoordSeatView). (total : ℕ → ℕ → ℕ) → AreTotals total v.counted
-      → HasChosen v h.coordinator.choice total) (sym h.coordinator_is.view) h.coordinator_is.chose;
+-- the crew of a run, later
+pub crew-later : (setup : Setup) (plans : List (List Request)) (board : List ℕ) (notes : Bool) (c d : CrewView)
+    → IsCrewAt setup plans board notes c
+    → GoesOn c d
+    → IsCrewAt setup plans board notes d
+crew-later setup plans board notes c d is on = record {
+  opening = on.coordinator.opening ∙ is.opening;
+  turns = on.coordinator.turns ∙ is.turns;
+  hot = on.coordinator.hot ∙ is.hot;
+  servers = servers-later (workload_of setup plans) setup.workers board notes c.servers d.servers is.servers on.servers;
 }

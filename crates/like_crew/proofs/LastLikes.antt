@@ -4,9 +4,14 @@ use Rattle.std.proofs.lemmas.Bool.{cases_eq, lt-ltb, ne_eqb}
 use Rattle.std.proofs.lemmas.Option.{same_Some}
 use Rattle.like_requests.specs.Verdict.{home}
 use Rattle.like_promises.specs.declared.log.WorkerLog.{WorkerLog}
-use Rattle.like_tables.specs.Share.{owns, worker_of}
+use Rattle.like_tables.specs.Share.{owns, share_of, worker_of}
 use Rattle.like_tables.specs.UserTable.{last_of}
-use Rattle.like_crew.specs.Gathered.{AreTables}
+
+-- the logs have the workers' user tables, in order
+abbrev pub AreTables : ℕ → ℕ → List WorkerLog → Type 0
+AreTables users submitters logs =
+    (worker : ℕ) (log : WorkerLog) → slice_get logs worker ≡ Some log
+    → log.last.share ≡ share_of users submitters (length logs) worker
 
 -- the last likes of the users of so many workers stand in the list
 pub record AreGiven (users submitters : ℕ) (logs : List WorkerLog) (last : List (Option ℕ)) (many : ℕ) : Type 0 where

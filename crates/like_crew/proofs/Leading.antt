@@ -14,9 +14,10 @@ use Rattle.like_ending.specs.FreshCoordTurns as fresh
 use Rattle.like_ending.specs.FreshCoordTurns.{FreshCoordTurns}
 use Rattle.like_crew.specs.Crew.{AreGone}
 use Rattle.like_crew.specs.Fresh.{ShowsWorkers}
-use Rattle.like_crew.specs.Progress.{progress_of, progress_with}
+use Rattle.like_crew.specs.Progress.{progress_of}
 use Rattle.like_crew.specs.Server.{ServerView}
 use Rattle.like_crew.proofs.Makings.{all-back, all-map}
+use Rattle.like_crew.proofs.Progress.{progress_with}
 
 -- whose workers are gone
 pub all-gone : (v : CoordinatorView) (servers : List ServerView)

@@ -5,6 +5,7 @@ pub mod lists
 pub mod Closing
 pub mod Coordinated
 pub mod Makings
+pub mod Progress
 pub mod Hot
 pub mod Whole
 pub mod Once

@@ -40,7 +40,7 @@ use Rattle.like_crew.specs.declared.outcome.Outcome.{Outcome}
 use Rattle.like_crew.specs.Outcome.{IsOutcome}
 use Rattle.like_crew.specs.Server.{IsLogOf}
 use Rattle.like_crew.proofs.lists.Sums.{sum-of-map}
-use Rattle.like_crew.proofs.Whole.{HasCounted, HaveMasks, SawNoneLater, at-post, hot_known, initial-at, known, left-at, log-there, logs-are, logs-size, posts, right-at-server, run-at, seat-worker, seats-size, served, server-at}
+use Rattle.like_crew.proofs.Whole.{HasCounted, HaveMasks, SawNoneLater, at-post, initial-at, known, left-at, log-there, logs-are, logs-size, posts, right, run-at, seat-worker, seats-size, served, server-at}
 
 -- nothing is added to a page in a phase
 none-added : (a b : Bool) → only a (cond b 0 0) ≡ 0
@@ -94,7 +94,7 @@ fits-none workload = record { plain = refl; by_phase = λ phase page. refl }
 
 module _ (setup : Setup) (plans : List (List Request)) (notes : Bool) (e : Outcome) (h : IsOutcome setup plans notes e)
     (masks : HaveMasks setup plans notes e h) (log : List LogEntry)
-    (order : IsOrderOf (slice_index h.coord.opening.counts) h.coord.phase
+    (order : IsOrderOf (slice_index h.crew.coordinator.seat.opening.counts) h.crew.coordinator.seat.phase
     (posts setup plans notes e h) log) where
   -- its steps at pages
   abbrev steps : List PageStep
@@ -104,25 +104,24 @@ module _ (setup : Setup) (plans : List (List Request)) (notes : Bool) (e : Outco
   fits-log : (worker : ℕ) (l : WorkerLog) → slice_get e.logs.items worker ≡ Some l
       → FitsRunList (known setup plans notes e h) (earliest_first (steps_by worker steps)) l.ran.items
   fits-log worker l at =
-      let s = left-at IsLogOf h.servers e.logs.items worker l h.logs at in
+      let s = left-at IsLogOf h.crew.servers e.logs.items worker l h.left.logs at in
       let is = server-at setup plans notes e h worker s.0 s.1.0 in
       let post : HasDone steps s.0.worker.post =
       (at-post setup plans notes e h (HasMade log) order.each worker s.0 s.1.0).done in
-      let right = s.1.1.each (known setup plans notes e h)
-      (is.works (hot_known setup plans notes e h), right-at-server setup plans notes e h masks worker s.0 s.1.0) in
+      let its = right setup plans notes e h masks worker s.0 l s.1.0 s.1.1 in
       subst (λ did. FitsRunList (known setup plans notes e h) (earliest_first did) l.ran.items)
       (sym post ∙ ap (λ i. steps_by i steps) is.whose)
-      (fits-run (known setup plans notes e h) s.0.worker.post.did l.ran.items right.steps right.by_phase)
+      (fits-run (known setup plans notes e h) s.0.worker.post.did l.ran.items its.steps its.by_phase)
 
   -- no seat is of a worker that is not there
   none-seated : (worker : ℕ) → length e.logs.items ≤ worker
-      → count_by (λ seat. (seat_view seat).worker == worker) h.seats ≡ 0
+      → count_by (λ seat. (seat_view seat).worker == worker) h.left.seats ≡ 0
   none-seated worker past =
-      count-none (λ (seat : WorkerSeat). (seat_view seat).worker == worker) h.seats
+      count-none (λ (seat : WorkerSeat). (seat_view seat).worker == worker) h.left.seats
       (λ k d within.
-      let own = seat-worker setup plans notes e h k (get_or h.seats k d)
-      (slice_get-get_or h.seats k d within) in
-      ne_eqb (seat_view (get_or h.seats k d)).worker worker
+      let own = seat-worker setup plans notes e h k (get_or h.left.seats k d)
+      (slice_get-get_or h.left.seats k d within) in
+      ne_eqb (seat_view (get_or h.left.seats k d)).worker worker
       (λ same. absurd
       (omega (arith, own, same, within, past, seats-size setup plans notes e h, logs-size setup plans notes e h))))
 
@@ -136,8 +135,8 @@ module _ (setup : Setup) (plans : List (List Request)) (notes : Bool) (e : Outco
         (fits-log worker found.0 found.1)
     | inr past ↦
         subst (λ did. FitsRunList (known setup plans notes e h) (earliest_first did) (run_of (runs_of e.logs.items) worker))
-        (sym (no_steps (slice_index h.coord.opening.counts) h.coord.phase (posts setup plans notes e h) log order worker
-        (sum-of-map (λ (p : WorkerSeatView). cond {A = ℕ} (p.worker == worker) 1 0) seat_view h.seats
+        (sym (no_steps (slice_index h.crew.coordinator.seat.opening.counts) h.crew.coordinator.seat.phase (posts setup plans notes e h) log order worker
+        (sum-of-map (λ (p : WorkerSeatView). cond {A = ℕ} (p.worker == worker) 1 0) seat_view h.left.seats
         ∙ none-seated worker past)))
         (subst (FitsRunList (known setup plans notes e h) [])
         (sym (no_run (runs_of e.logs.items) worker
@@ -146,9 +145,9 @@ module _ (setup : Setup) (plans : List (List Request)) (notes : Bool) (e : Outco
   ]
 
   -- each page's count at the start
-  first-same : (λ page. get_or h.coord.opening.counts page 0) ≡ initial_count setup.pages
+  first-same : (λ page. get_or h.crew.coordinator.seat.opening.counts page 0) ≡ initial_count setup.pages
   first-same =
-      λ i page. (ap (λ (x : Opening). get_or x.counts page 0) h.opening
+      λ i page. (ap (λ (x : Opening). get_or x.counts page 0) h.is_crew.opening
       ∙ initial-at (known setup plans notes e h) page) i
 
   pub one-order : HasCounted setup plans notes e h → SawNoneLater setup plans notes e h
@@ -156,7 +155,7 @@ module _ (setup : Setup) (plans : List (List Request)) (notes : Bool) (e : Outco
   one-order counted phases =
       let lists = logs_are_run_lists (served setup plans notes e h) setup.workers e.phases e.logs.items
       (logs-are setup plans notes e h masks counted phases) in
-      let last : ℕ = h.coord.phase in
+      let last : ℕ = h.crew.coordinator.seat.phase in
       let found = runs_are_serial (known setup plans notes e h) setup.workers last (runs_of e.logs.items) steps
       (record { own = lists.own; rising = lists.rising; answers = lists.answers })
       (record {

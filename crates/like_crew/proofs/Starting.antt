@@ -14,10 +14,11 @@ use Rattle.like_tables.specs.declared.held.Held.{Held}
 use Rattle.like_ending.specs.Progress.{IsStart, WorkerProgress, items_in}
 use Rattle.like_roles.specs.coordinator.CoordTurns.{CoordinatorView}
 use Rattle.like_crew.specs.Crew.{CrewView, IsNewCrew}
-use Rattle.like_crew.specs.Progress.{items_left, items_of, progress_in, progress_of}
+use Rattle.like_crew.specs.Progress.{items_left, items_of, progress_of}
 use Rattle.like_crew.specs.Server.{ServerView, untouched}
 use Rattle.like_crew.specs.Servers.{IsNewServer}
 use Rattle.like_crew.proofs.Makings.{all-map}
+use Rattle.like_crew.proofs.Progress.{progress_in}
 use Rattle.like_crew.proofs.lists.Dealt.{deal-sum}
 use Rattle.like_crew.proofs.lists.Pairs.{pairs-length, pairs-sum}
 use Rattle.like_crew.proofs.lists.Sums.{sum-of-map}

@@ -17,6 +17,7 @@ use Rattle.like_core.specs.declared.sight.Sight.{Sight}
 use Rattle.like_core.specs.declared.opening.Opening.{Opening}
 use Rattle.like_core.specs.declared.view.PageCount.{PageCount}
 use Rattle.like_core.specs.Additions.{added_before}
+use Rattle.like_core.specs.Phase.{IsJoined}
 use Rattle.like_core.specs.PhaseMasks.{mask_of, AreMasksOf}
 use Rattle.like_core.specs.Post.{additions_of}
 use Rattle.like_core.specs.WorkerState.{SawNoLater}
@@ -27,7 +28,7 @@ use Rattle.like_board.specs.Closed.{count_with}
 use Rattle.like_board.specs.Seats.{seat_view}
 use Rattle.like_core.specs.PageSteps.{additions_among}
 use Rattle.like_tables.specs.Share.{Share, share_of, worker_of}
-use Rattle.like_tables.specs.UserTable.{last_of}
+use Rattle.like_tables.specs.UserTable.{UserTable, last_of}
 use Rattle.like_promises.specs.declared.log.Ran.{Ran}
 use Rattle.like_promises.specs.declared.log.Took.{Took}
 use Rattle.like_promises.specs.declared.log.WorkerLog.{WorkerLog}
@@ -47,19 +48,20 @@ use Rattle.like_core.specs.declared.view.WorkerSeatView.{WorkerSeatView}
 use Rattle.like_promises.specs.Collected.{entries_in, entries_of}
 use Rattle.like_crew.specs.declared.outcome.Outcome.{Outcome}
 use Rattle.like_promises.specs.EndToEnd.{AreCounts, AreLastLikes, AreLogs, runs_of}
-use Rattle.like_crew.specs.Gathered.{AreTables}
+use Rattle.like_crew.proofs.LastLikes.{AreTables}
 use Rattle.like_crew.proofs.Once.{RunsOnce}
 use Rattle.like_promises.specs.Log.{IsLog}
-use Rattle.like_crew.specs.Server.{NoneAbove, HasWorkedFor, IsLogOf, ReadMasksOf, ServerView}
+use Rattle.like_crew.specs.Server.{NoneAbove, IsLogOf, ServerView}
 use Rattle.like_crew.specs.Outcome.{IsOutcome, IsSeatLike}
 use Rattle.like_crew.specs.Site.{opening_of}
 use Rattle.like_crew.specs.Servers.{IsServer}
 use Rattle.like_crew.proofs.Hot.{hot-same, order-same, stashed-same, total}
 use Rattle.like_crew.proofs.Counted.{count-in-all, in_range, plan_of}
 use Rattle.like_crew.proofs.Ending.{as-many, server-at as server-of}
-use Rattle.like_crew.proofs.lists.Pairs.{pairs-length, pairs-sum}
+use Rattle.like_crew.proofs.lists.Pairs.{pairs-length, pairs-sum, pairs-then}
 use Rattle.like_crew.proofs.lists.Sums.{sum-of-map}
 use Rattle.like_crew.proofs.Makings.{all-back}
+use Rattle.like_crew.proofs.servers.Finishing.{IsLogFor, log-for}
 
 -- what matches an element that stands at a place
 pub left-at : {A B : Type 0} (R : A → B → Type 0) (xs : List A) (ys : List B) (k : ℕ) (y : B)
@@ -82,17 +84,6 @@ right-at R (a ∷ xs) [] k x all e = absurd all
 right-at R (a ∷ xs) (b ∷ ys) zero x all e = let same : a ≡ x = cc e in (b, (refl, subst (λ z. R z b) same all.0))
 right-at R (a ∷ xs) (b ∷ ys) (suc k) x all e = right-at R xs ys k x all.1 e
 
--- a fact of each element of the first list stands beside the match
-with-fact : {A B : Type 0} (R : A → B → Type 0) (P : A → Type 0) (xs : List A) (ys : List B)
-    → ((k : ℕ) (x : A) → slice_get xs k ≡ Some x → P x)
-    → AllZip R xs ys
-    → AllZip (λ x y. P x × R x y) xs ys
-with-fact R P [] [] each all = tt
-with-fact R P [] (b ∷ ys) each all = absurd all
-with-fact R P (a ∷ xs) [] each all = absurd all
-with-fact R P (a ∷ xs) (b ∷ ys) each all =
-    ((each zero a refl, all.0), with-fact R P xs ys (λ k x e. each (suc k) x e) all.1)
-
 -- a page's count at the start
 pub initial-at : (workload : Workload) (page : ℕ)
     → get_or (map (λ (p : Page). p.count) workload.pages) page 0 ≡ initial_count workload.pages page
@@ -109,7 +100,7 @@ initial-at workload page =
 module _ (setup : Setup) (plans : List (List Request)) (notes : Bool) (e : Outcome) (h : IsOutcome setup plans notes e) where
   -- the masks of the phases that were released
   abbrev pub hot_known : ℕ → ℕ
-  hot_known = mask_of h.coord.masks
+  hot_known = mask_of h.crew.coordinator.seat.masks
 
   -- the run with these masks
   abbrev pub known : Workload
@@ -118,37 +109,44 @@ module _ (setup : Setup) (plans : List (List Request)) (notes : Bool) (e : Outco
   abbrev pub z : Opening
   z = opening_of setup
 
+  -- the phase in which it ended is the last one that the coordinator's seat knows, and joined
+  phase-is : e.phases ≡ h.crew.coordinator.seat.phase
+  phase-is = h.left.phases ∙ h.ended.phase
+
+  pub joined : IsJoined e.phases
+  joined = subst IsJoined (sym h.left.phases) h.ended.joined
+
   -- the run, with the hot pages that its entries tell
   abbrev pub served : Workload
   served = workload_by setup plans (entries_in e.logs.items)
 
   -- the server of a worker
-  pub server-at : (worker : ℕ) (s : ServerView) → slice_get h.servers worker ≡ Some s
+  pub server-at : (worker : ℕ) (s : ServerView) → slice_get h.crew.servers worker ≡ Some s
       → IsServer (workload_of setup plans) setup.workers h.board notes worker s
   server-at worker s at =
-      server-of (workload_of setup plans) setup.workers h.board notes h.servers worker s at h.are_servers
+      server-of (workload_of setup plans) setup.workers h.board notes h.crew.servers worker s at h.is_crew.servers
 
-  servers-size : length h.servers ≡ setup.workers
-  servers-size = as-many (workload_of setup plans) setup.workers h.board notes h.servers h.are_servers
+  servers-size : length h.crew.servers ≡ setup.workers
+  servers-size = as-many (workload_of setup plans) setup.workers h.board notes h.crew.servers h.is_crew.servers
 
   pub logs-size : length e.logs.items ≡ setup.workers
-  logs-size = sym (pairs-length IsLogOf h.servers e.logs.items h.logs) ∙ servers-size
+  logs-size = sym (pairs-length IsLogOf h.crew.servers e.logs.items h.left.logs) ∙ servers-size
 
-  pub seats-size : length h.seats ≡ setup.workers
-  seats-size = sym (pairs-length IsSeatLike h.servers h.seats h.seats_are) ∙ servers-size
+  pub seats-size : length h.left.seats ≡ setup.workers
+  seats-size = sym (pairs-length IsSeatLike h.crew.servers h.left.seats h.left.seats_are) ∙ servers-size
 
   -- what the seats that were left know
   abbrev pub posts : List WorkerSeatView
-  posts = map seat_view h.seats
+  posts = map seat_view h.left.seats
 
   -- what is true of all of them is true of a server's
   pub at-post : (P : WorkerSeatView → Type 0) → All P posts → (worker : ℕ) (s : ServerView)
-      → slice_get h.servers worker ≡ Some s → P s.worker.post
+      → slice_get h.crew.servers worker ≡ Some s → P s.worker.post
   at-post P all worker s at =
-      let seat = right-at IsSeatLike h.servers h.seats worker s h.seats_are at in
+      let seat = right-at IsSeatLike h.crew.servers h.left.seats worker s h.left.seats_are at in
       subst P seat.1.1
-      (subst (λ (x : WorkerSeat). P (seat_view x)) (get_or_from_slice_get h.seats worker seat.0 seat.0 seat.1.0)
-      (all-back seat_view P h.seats all worker seat.0 (slice_get_within h.seats worker seat.0 seat.1.0)))
+      (subst (λ (x : WorkerSeat). P (seat_view x)) (get_or_from_slice_get h.left.seats worker seat.0 seat.0 seat.1.0)
+      (all-back seat_view P h.left.seats all worker seat.0 (slice_get_within h.left.seats worker seat.0 seat.1.0)))
 
   -- the masks that the workers read are those
   abbrev pub HaveMasks : Type 0
@@ -156,36 +154,42 @@ module _ (setup : Setup) (plans : List (List Request)) (notes : Bool) (e : Outco
 
   -- the counts that the coordinator read have all that was added by then
   abbrev pub HasCounted : Type 0
-  HasCounted = All (IsCounted h.coord.opening.counts (posts_before posts)) h.coord.counted
+  HasCounted = All (IsCounted h.crew.coordinator.seat.opening.counts (posts_before posts)) h.crew.coordinator.seat.counted
 
   -- no worker saw a later phase than the coordinator's
   abbrev pub SawNoneLater : Type 0
-  SawNoneLater = All (λ (p : WorkerSeatView). SawNoLater h.coord.phase p.last) posts
+  SawNoneLater = All (λ (p : WorkerSeatView). SawNoLater h.crew.coordinator.seat.phase p.last) posts
 
-  pub right-at-server : HaveMasks → (worker : ℕ) (s : ServerView) → slice_get h.servers worker ≡ Some s
-      → ReadMasksOf known s
-  right-at-server masks worker s at = at-post (λ (p : WorkerSeatView). AreMasksOf hot_known p.masks) masks worker s at
+  -- the log of each server is right for the run
+  pub right : HaveMasks → (worker : ℕ) (s : ServerView) (log : WorkerLog) → slice_get h.crew.servers worker ≡ Some s
+      → IsLogOf s log
+      → IsLogFor known s log
+  right masks worker s log at of_log =
+      log-for known s log ((server-at worker s at).works hot_known)
+      (at-post (λ (p : WorkerSeatView). AreMasksOf hot_known p.masks) masks worker s at) of_log
+
+  all-right : HaveMasks → AllZip (IsLogFor known) h.crew.servers e.logs.items
+  all-right masks = pairs-then IsLogOf (IsLogFor known) h.crew.servers e.logs.items (right masks) h.left.logs
 
   pub log-at : HaveMasks → (worker : ℕ) (log : WorkerLog) → slice_get e.logs.items worker ≡ Some log
       → IsLog known setup.workers worker log
   log-at masks worker log at =
-      let s = left-at IsLogOf h.servers e.logs.items worker log h.logs at in
-      let is = server-at worker s.0 s.1.0 in
-      subst (λ (x : Share). IsLog known x.workers x.worker log) is.share
-      (s.1.1.each known (is.works hot_known, right-at-server masks worker s.0 s.1.0)).is_log
+      let s = left-at IsLogOf h.crew.servers e.logs.items worker log h.left.logs at in
+      subst (λ (x : Share). IsLog known x.workers x.worker log) (server-at worker s.0 s.1.0).share
+      (right masks worker s.0 log s.1.0 s.1.1).is_log
 
   -- where no additions are noted, no log has any
   pub none-noted : notes ≡ false → All (λ log. log.adds.items ≡ []) e.logs.items
   none-noted unasked = λ worker d within.
       let at = slice_get-get_or e.logs.items worker d within in
-      let s = left-at IsLogOf h.servers e.logs.items worker (get_or e.logs.items worker d) h.logs at in
+      let s = left-at IsLogOf h.crew.servers e.logs.items worker (get_or e.logs.items worker d) h.left.logs at in
       s.1.1.unnoted ((server-at worker s.0 s.1.0).notes_are ∙ unasked)
 
   pub tables : AreTables known.users (submitters known) e.logs.items
   tables worker log at =
-      let s = left-at IsLogOf h.servers e.logs.items worker log h.logs at in
+      let s = left-at IsLogOf h.crew.servers e.logs.items worker log h.left.logs at in
       let is = server-at worker s.0 s.1.0 in
-      s.1.1.share ∙ is.share ∙ ap (λ n. share_of known.users (submitters known) n worker) (sym logs-size)
+      ap (λ (t : UserTable). t.share) s.1.1.last ∙ is.share ∙ ap (λ n. share_of known.users (submitters known) n worker) (sym logs-size)
 
   -- nothing was taken after the phase in which the run ended
   below : (last : Option Sight) (taken : List Took) (phase : ℕ) → NoneAbove last taken
@@ -196,40 +200,21 @@ module _ (setup : Setup) (plans : List (List Request)) (notes : Bool) (e : Outco
   -- the additions of all seats are the accepted likes of all logs
   pub all-likes : HaveMasks → (page : ℕ) → posts_added posts page ≡ likes known page (runs_of e.logs.items)
   all-likes masks page =
-      sum-of-map (λ (p : WorkerSeatView). additions_of p page) seat_view h.seats
+      sum-of-map (λ (p : WorkerSeatView). additions_of p page) seat_view h.left.seats
       ∙ sym (pairs-sum IsSeatLike (λ (s : ServerView). additions_of s.worker.post page)
-      (λ (seat : WorkerSeat). additions_of (seat_view seat) page) h.servers h.seats
-      (λ s seat m. ap (λ (p : WorkerSeatView). additions_of p page) (sym m)) h.seats_are)
-      ∙ pairs-sum (λ (s : ServerView)
-      (log : WorkerLog). ((page : ℕ) → likes_among known page log.ran.items ≡ additions_of s.worker.post page))
-      (λ (s : ServerView). additions_of s.worker.post page)
-      (λ (log : WorkerLog). likes_among known page log.ran.items) h.servers e.logs.items
-      (λ s log m. sym (m page)) matched
-      ∙ sym (sum-of-map (likes_among known page) (λ (log : WorkerLog). log.ran.items) e.logs.items) where
-        both : (ss : List ServerView) (logs : List WorkerLog)
-            → ((k : ℕ) (s : ServerView) → slice_get ss k ≡ Some s → HasWorkedFor known s) → AllZip IsLogOf ss logs
-            → AllZip (λ (s : ServerView)
-            (log : WorkerLog). ((page : ℕ)
-            → likes_among known page log.ran.items ≡ additions_of s.worker.post page)) ss logs
-        both [] [] each all = tt
-        both [] (log ∷ logs) each all = absurd all
-        both (s ∷ ss) [] each all = absurd all
-        both (s ∷ ss) (log ∷ logs) each all =
-            ((all.0.each known (each zero s refl)).likes, both ss logs (λ k t x. each (suc k) t x) all.1)
-
-        matched : AllZip
-            (λ (s : ServerView)
-            (log : WorkerLog). ((page : ℕ) → likes_among known page log.ran.items ≡ additions_of s.worker.post page))
-            h.servers e.logs.items
-        matched = both h.servers e.logs.items
-            (λ k s at. ((server-at k s at).works hot_known, right-at-server masks k s at)) h.logs
+      (λ (seat : WorkerSeat). additions_of (seat_view seat) page) h.crew.servers h.left.seats
+      (λ s seat m. ap (λ (p : WorkerSeatView). additions_of p page) (sym m)) h.left.seats_are)
+      ∙ pairs-sum (IsLogFor known) (λ (s : ServerView). additions_of s.worker.post page)
+      (λ (log : WorkerLog). likes_among known page log.ran.items) h.crew.servers e.logs.items
+      (λ s log m. sym (m.likes page)) (all-right masks)
+      ∙ sym (sum-of-map (likes_among known page) (λ (log : WorkerLog). log.ran.items) e.logs.items)
 
   -- the seats that were left
-  seat-at : (k : ℕ) (seat : WorkerSeat) → slice_get h.seats k ≡ Some seat
-      → (s : ServerView) × ((slice_get h.servers k ≡ Some s) × IsSeatLike s seat)
-  seat-at k seat at = left-at IsSeatLike h.servers h.seats k seat h.seats_are at
+  seat-at : (k : ℕ) (seat : WorkerSeat) → slice_get h.left.seats k ≡ Some seat
+      → (s : ServerView) × ((slice_get h.crew.servers k ≡ Some s) × IsSeatLike s seat)
+  seat-at k seat at = left-at IsSeatLike h.crew.servers h.left.seats k seat h.left.seats_are at
 
-  pub seat-worker : (k : ℕ) (seat : WorkerSeat) → slice_get h.seats k ≡ Some seat → (seat_view seat).worker ≡ k
+  pub seat-worker : (k : ℕ) (seat : WorkerSeat) → slice_get h.left.seats k ≡ Some seat → (seat_view seat).worker ≡ k
   seat-worker k seat at =
       let s = seat-at k seat at in
       ap (λ (p : WorkerSeatView). p.worker) s.1.1 ∙ (server-at k s.0 s.1.0).whose
@@ -238,14 +223,14 @@ module _ (setup : Setup) (plans : List (List Request)) (notes : Bool) (e : Outco
   pub counts-are : HaveMasks → (counts : List ℕ)
       → z.counts ≡ map (λ p. p.count) known.pages → length counts ≡ length known.pages
       → ((page : ℕ) → page < length known.pages
-      → get_or counts page 0 ≡ count_with h.coord h.seats page)
+      → get_or counts page 0 ≡ count_with h.crew.coordinator.seat h.left.seats page)
       → AreCounts served (runs_of e.logs.items) counts
   counts-are masks counts initial sized told =
       fill_by_all (λ page. initial_count known.pages page + likes served page (runs_of e.logs.items)) counts
       (length known.pages) 0 sized
       (λ page there.
       told page there
-      ∙ ap (λ (x : Opening). get_or x.counts page 0 + posts_added posts page) h.opening
+      ∙ ap (λ (x : Opening). get_or x.counts page 0 + posts_added posts page) h.is_crew.opening
       ∙ ap (λ cs. get_or cs page 0 + posts_added posts page) initial
       ∙ ap (λ n. n + posts_added posts page) (initial-at known page)
       ∙ ap (λ n. initial_count known.pages page + n) (all-likes masks page))
@@ -254,39 +239,37 @@ module _ (setup : Setup) (plans : List (List Request)) (notes : Bool) (e : Outco
   pub all-before : HaveMasks → (phase page : ℕ)
       → posts_before posts phase page ≡ likes_below known page (runs_of e.logs.items) phase
   all-before masks phase page =
-      sum-of-map (λ (p : WorkerSeatView). added_before phase page (additions_among p.did)) seat_view h.seats
+      sum-of-map (λ (p : WorkerSeatView). added_before phase page (additions_among p.did)) seat_view h.left.seats
       ∙ sym (pairs-sum IsSeatLike (λ (s : ServerView). added_before phase page (additions_among s.worker.post.did))
-      (λ (seat : WorkerSeat). added_before phase page (additions_among (seat_view seat).did)) h.servers h.seats
-      (λ s seat m. ap (λ (p : WorkerSeatView). added_before phase page (additions_among p.did)) (sym m)) h.seats_are)
-      ∙ pairs-sum (λ (s : ServerView) (log : WorkerLog). HasWorkedFor known s × IsLogOf s log)
-      (λ (s : ServerView). added_before phase page (additions_among s.worker.post.did))
-      (λ (log : WorkerLog). likes_among known page (filter (λ x. nat_lt x.phase phase) log.ran.items)) h.servers
+      (λ (seat : WorkerSeat). added_before phase page (additions_among (seat_view seat).did)) h.crew.servers h.left.seats
+      (λ s seat m. ap (λ (p : WorkerSeatView). added_before phase page (additions_among p.did)) (sym m)) h.left.seats_are)
+      ∙ pairs-sum (IsLogFor known) (λ (s : ServerView). added_before phase page (additions_among s.worker.post.did))
+      (λ (log : WorkerLog). likes_among known page (filter (λ x. nat_lt x.phase phase) log.ran.items)) h.crew.servers
       e.logs.items
-      (λ s log m. sym (below-is known log.ran.items (additions_among s.worker.post.did) (m.1.each known m.0).by_phase phase page))
-      (with-fact IsLogOf (HasWorkedFor known) h.servers e.logs.items
-      (λ k s at. ((server-at k s at).works hot_known, right-at-server masks k s at)) h.logs)
+      (λ s log m. sym (below-is known log.ran.items (additions_among s.worker.post.did) m.by_phase phase page))
+      (all-right masks)
       ∙ sym (sum-of-map (λ (ran : List Ran). likes_among known page (filter (λ x. nat_lt x.phase phase) ran))
       (λ (log : WorkerLog). log.ran.items) e.logs.items)
 
   -- the counts that the coordinator read are the totals by the run lists
   are-totals : HaveMasks → HasCounted
-      → AreTotals (total (workload_of setup plans) e.logs.items z.counts) h.coord.counted
+      → AreTotals (total (workload_of setup plans) e.logs.items z.counts) h.crew.coordinator.seat.counted
   are-totals masks counted = λ k d within.
-      let r : PageCount = get_or h.coord.counted k d in
+      let r : PageCount = get_or h.crew.coordinator.seat.counted k d in
       counted k d within
-      ∙ ap (λ (x : Opening). get_or x.counts r.page 0 + posts_before posts (r.phase + 1) r.page) h.opening
+      ∙ ap (λ (x : Opening). get_or x.counts r.page 0 + posts_before posts (r.phase + 1) r.page) h.is_crew.opening
       ∙ ap (λ n. get_or z.counts r.page 0 + n) (all-before masks (r.phase + 1) r.page)
 
   -- the hot pages that were chosen by these totals are those that the run lists tell
   hot-is : (k : ℕ)
-      → hot_by h.choice.hot (length h.coord.opening.counts)
-      (likes_counted h.coord.opening.counts
+      → hot_by h.crew.coordinator.choice.hot (length h.crew.coordinator.seat.opening.counts)
+      (likes_counted h.crew.coordinator.seat.opening.counts
       (total (workload_of setup plans) e.logs.items z.counts)) k ≡ served.hot k
   hot-is k =
-      ap (λ (x : Opening). hot_by h.choice.hot (length x.counts)
-      (likes_counted x.counts (total (workload_of setup plans) e.logs.items z.counts)) k) h.opening
+      ap (λ (x : Opening). hot_by h.crew.coordinator.choice.hot (length x.counts)
+      (likes_counted x.counts (total (workload_of setup plans) e.logs.items z.counts)) k) h.is_crew.opening
       ∙ ap (λ o. hot_by o (length z.counts)
-      (likes_counted z.counts (total (workload_of setup plans) e.logs.items z.counts)) k) h.hot
+      (likes_counted z.counts (total (workload_of setup plans) e.logs.items z.counts)) k) h.is_crew.hot
       ∙ ap (λ n. hot_by setup.hot n
       (likes_counted z.counts (total (workload_of setup plans) e.logs.items z.counts)) k)
       (length-map setup.pages (λ (p : Page). p.count))
@@ -295,28 +278,28 @@ module _ (setup : Setup) (plans : List (List Request)) (notes : Bool) (e : Outco
   -- the phases were released with the masks of these pages
   pub masks-known : HaveMasks → HasCounted → (k : ℕ) → k ≤ e.phases → hot_known k ≡ served.hot k
   masks-known masks counted k within =
-      (h.chose (total (workload_of setup plans) e.logs.items z.counts) (are-totals masks counted)).masks k
-      (omega (arith, within, h.phases)) ∙ hot-is k
+      (h.left.chose (total (workload_of setup plans) e.logs.items z.counts) (are-totals masks counted)).masks k
+      (omega (arith, within, phase-is)) ∙ hot-is k
 
   -- the choices are those phases that have any
   pub chosen-are : HaveMasks → HasCounted → e.chosen.items ≡ chosen_below served.hot e.phases
   chosen-are masks counted =
-      h.chosen ∙ (h.chose (total (workload_of setup plans) e.logs.items z.counts)
+      h.left.chosen ∙ (h.left.chose (total (workload_of setup plans) e.logs.items z.counts)
       (are-totals masks counted)).chosen
-      ∙ ap (λ (f : ℕ → ℕ). chosen_below f (h.coord.phase + 1)) (λ i k. hot-is k i)
-      ∙ ap (λ n. chosen_below served.hot (n + 1)) (sym h.phases)
+      ∙ ap (λ (f : ℕ → ℕ). chosen_below f (h.crew.coordinator.seat.phase + 1)) (λ i k. hot-is k i)
+      ∙ ap (λ n. chosen_below served.hot (n + 1)) (sym phase-is)
       ∙ chosen-more served.hot e.phases
       ∙ ap (λ m. chosen_below served.hot e.phases ++ cond (ltb 0 m) (record { phase = e.phases; mask = m } ∷ []) [])
       (none-even setup.hot (length setup.pages)
-      (grew (workload_of setup plans) (entries_in e.logs.items)) e.phases h.joined)
+      (grew (workload_of setup plans) (entries_in e.logs.items)) e.phases joined)
       ∙ append-nil (chosen_below served.hot e.phases)
 
   pub logs-are : HaveMasks → HasCounted → SawNoneLater → AreLogs served setup.workers e.phases e.logs.items
   logs-are masks counted phases worker log at =
-      let s = left-at IsLogOf h.servers e.logs.items worker log h.logs at in
+      let s = left-at IsLogOf h.crew.servers e.logs.items worker log h.left.logs at in
       let saw : IfSome s.0.worker.post.last (λ sight. sight.number ≤ e.phases) =
-      subst (λ n. IfSome s.0.worker.post.last (λ sight. sight.number ≤ n)) (sym h.phases)
-      (at-post (λ (p : WorkerSeatView). SawNoLater h.coord.phase p.last) phases worker s.0 s.1.0) in
+      subst (λ n. IfSome s.0.worker.post.last (λ sight. sight.number ≤ n)) (sym phase-is)
+      (at-post (λ (p : WorkerSeatView). SawNoLater h.crew.coordinator.seat.phase p.last) phases worker s.0 s.1.0) in
       let within = below s.0.worker.post.last log.taken.items e.phases s.1.1.above saw in
       let it = log-at masks worker log at in (
         record {

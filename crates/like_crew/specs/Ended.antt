@@ -1,23 +1,18 @@
 -- What a crew leaves when its run has ended.
-use Rattle.std.specs.Prelude.{◌≡◌, ℕ, All, List}
+use Rattle.std.specs.Prelude.{◌≡◌, All, List}
 use Rattle.std.specs.List.{AllZip}
-use Rattle.like_core.specs.Phase.{IsJoined}
 use Rattle.like_core.specs.declared.worker_state.WorkerState.TheVariants.{Gone}
 use Rattle.like_board.specs.declared.coord_seat.CoordSeat.{CoordSeat}
 use Rattle.like_board.specs.declared.worker_seat.WorkerSeat.{WorkerSeat}
-use Rattle.like_board.specs.Seats.{AreAll, BoardId, board_id, board_numbers, coord_board, coord_view, seat_board, seat_view}
+use Rattle.like_board.specs.Seats.{AreAll, BoardId, board_numbers, coord_board, coord_view, seat_board, seat_view}
 use Rattle.like_roles.specs.coordinator.CoordTurns.{ChoseByCounts, CoordinatorGoesOn, CoordinatorView, HasEndedJoined}
 use Rattle.like_promises.specs.declared.log.WorkerLog.{WorkerLog}
 use Rattle.like_requests.specs.declared.request.Request.{Request}
 use Rattle.like_requests.specs.declared.setup.Setup.{Setup}
-use Rattle.like_roles.specs.coordinator.Choice.{AreTotals, ChoiceView, HasChosen}
 use Rattle.like_crew.specs.declared.ended.Ended.{Ended}
 use Rattle.like_crew.specs.declared.site.Site.{Site}
-use Rattle.like_promises.specs.Workload.{workload_of}
-use Rattle.like_crew.specs.Site.{opening_of}
-use Rattle.like_crew.specs.Crew.{AreGone, CrewView}
+use Rattle.like_crew.specs.Crew.{AreGone, CrewView, IsCrew}
 use Rattle.like_crew.specs.Server.{IsLogOf, ServerGoesOn, ServerView}
-use Rattle.like_crew.specs.Servers.{AreServers}
 
 -- the seat that a server leaves: at its board, it knows what the server's post does
 pub record IsSeatOf (s : ServerView) (seat : WorkerSeat) : Type 0 where
@@ -64,22 +59,8 @@ pub record HasEnded (c : CrewView) (e : Ended) : Type 0 where
   pub later : CoordinatorGoesOn c.coordinator coordinator
   pub coordinator_is : IsCoordinatorOf coordinator e
 
--- a run of these plans at this site that has ended: its workers are gone, and their servers left these logs and seats;
--- and it ended in a joined phase, which is the last one that the coordinator's seat knows; and the coordinator chose by
--- its counts
+-- a crew of a run of these plans at this site went on until the run had ended, and left this
 pub record IsEnded (setup : Setup) (plans : List (List Request)) (site : Site) (e : Ended) : Type 0 where
-  pub servers : List ServerView
-  pub are_servers : AreServers (workload_of setup plans) setup.workers (board_numbers (board_id site.board)) site.notes
-      servers
-  pub gone : AreGone servers
-  pub logs : AllZip IsLogOf servers e.logs.items
-  pub seats : AllZip IsSeatOf servers e.seats.items
-  pub coord : coord_board e.coord ≡ board_id site.board
-  pub opening : (coord_view e.coord).opening ≡ opening_of setup
-  pub phases : e.phases ≡ (coord_view e.coord).phase
-  pub joined : IsJoined e.phases
-  pub choice : ChoiceView
-  pub hot : choice.hot ≡ setup.hot
-  pub chosen : e.chosen.items ≡ choice.chosen
-  pub chose : (total : ℕ → ℕ → ℕ) → AreTotals total (coord_view e.coord).counted
-      → HasChosen (coord_view e.coord) choice total
+  pub crew : CrewView
+  pub is_crew : IsCrew setup plans site crew
+  pub ended : HasEnded crew e

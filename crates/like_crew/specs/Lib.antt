@@ -1,7 +1,6 @@
 pub mod Crew
 pub mod Ended
 pub mod Fresh
-pub mod Gathered
 pub mod Outcome
 pub mod OwnCrew
 pub mod OwnServer

@@ -1,19 +1,12 @@
 -- A crew whose thread owns its board.
 use Rattle.std.specs.Prelude.{◌≡◌, ℕ, ◌+◌, List, ◌∷◌, map, slice_get, Some}
-use Rattle.std.specs.List.{AllZip}
 use Rattle.like_core.specs.declared.view.CoordSeatView.{CoordSeatView}
 use Rattle.like_core.specs.declared.view.View.{View}
 use Rattle.like_core.specs.declared.view.View.TheVariants.{Coord, Worker}
 use Rattle.like_board.specs.declared.own_board.worker_seat.OwnWorkerSeat.{OwnWorkerSeat}
-use Rattle.like_board.specs.Closed.{IsClosedBoard}
 use Rattle.like_board.specs.Own.{own_place, own_view}
-use Rattle.like_board.specs.declared.worker_seat.WorkerSeat.{WorkerSeat}
-use Rattle.like_roles.specs.coordinator.CoordTurns.{ChoseByCounts}
-use Rattle.like_crew.specs.declared.outcome.Outcome.{Outcome}
-use Rattle.like_crew.specs.Crew.{CrewView}
-use Rattle.like_crew.specs.Outcome.{IsSeatLike}
 use Rattle.like_crew.specs.OwnServer.{OwnServerView}
-use Rattle.like_crew.specs.Server.{IsLogOf, ServerView}
+use Rattle.like_crew.specs.Server.{ServerView}
 
 abbrev pub servers_of : List OwnServerView → List ServerView
 servers_of owned = map (λ s. s.server) owned
@@ -27,14 +20,3 @@ pub record AreSeated (views : List View) (c : CoordSeatView) (owned : List OwnSe
 pub record IsOwnSeatOf (s : OwnServerView) (seat : OwnWorkerSeat) : Type 0 where
   pub view : own_view seat ≡ s.server.worker.post
   pub place : own_place seat ≡ s.place
-
--- a crew, whose run has ended, has left this: the logs of its servers, what its coordinator knows and chose, and the last
--- counts of its board
-pub record HasOutcome (c : CrewView) (o : Outcome) : Type 0 where
-  pub logs : AllZip IsLogOf c.servers o.logs.items
-  pub seats : List WorkerSeat
-  pub seats_are : AllZip IsSeatLike c.servers seats
-  pub counts : IsClosedBoard c.coordinator.seat seats o.counts.items
-  pub phases : o.phases ≡ c.coordinator.phase
-  pub chosen : o.chosen.items ≡ c.coordinator.choice.chosen
-  pub chose : ChoseByCounts c.coordinator

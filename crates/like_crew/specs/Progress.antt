@@ -1,11 +1,9 @@
--- How far a crew is, in the words of the model of `like_ending`.
-use Rattle.std.specs.Prelude.{ℕ, ◌-◌, List, length, map}
+-- How far a server is, in the words of the model of `like_ending`.
+use Rattle.std.specs.Prelude.{ℕ, ◌-◌, List, length}
 use Rattle.std.specs.List.{sum_by}
 use Rattle.like_requests.specs.declared.request.Request.{Request}
 use Rattle.like_queue.specs.Inbox.{InboxView, item_count}
-use Rattle.like_ending.specs.Progress.{CrewProgress, WorkerProgress}
-use Rattle.like_roles.specs.coordinator.CoordTurns.{CoordinatorView}
-use Rattle.like_crew.specs.Crew.{CrewView}
+use Rattle.like_ending.specs.Progress.{WorkerProgress}
 use Rattle.like_crew.specs.Server.{ServerView}
 
 -- how many items of an inbox are left: the requests that were not taken, and the end mark until it was
@@ -19,20 +17,6 @@ progress_of s = record {
   items = sum_by items_left s.inboxes;
   looks = length s.worker.held.held;
 }
-
--- how far a coordinator with these servers is
-abbrev pub progress_with : CoordinatorView → List ServerView → CrewProgress
-progress_with v servers = record {
-  phase = v.seat.phase;
-  ending = v.seat.ending;
-  turns = v.turns;
-  left = v.left;
-  workers = map progress_of servers;
-}
-
--- how far a crew is
-abbrev pub progress_in : CrewView → CrewProgress
-progress_in c = progress_with c.coordinator c.servers
 
 -- how many items plans have: the requests, and an end mark each
 abbrev pub items_of : List (List Request) → ℕ

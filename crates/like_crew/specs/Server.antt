@@ -8,18 +8,15 @@ use Rattle.like_requests.specs.declared.request.Request.{Request}
 use Rattle.like_core.specs.declared.sight.Sight.{Sight}
 use Rattle.like_core.specs.declared.worker_state.WorkerState.TheVariants.{Gone}
 use Rattle.like_core.specs.PhaseMasks.{AreMasksOf}
-use Rattle.like_core.specs.Post.{additions_in, additions_of, pages_of}
-use Rattle.like_core.specs.PageSteps.{earliest_first}
+use Rattle.like_core.specs.Post.{pages_of}
 use Rattle.like_queue.specs.Inbox.{InboxView}
 use Rattle.like_tables.specs.Share.{Share, dealt, place_of, serves}
-use Rattle.like_roles.specs.worker.Follows.{ArePlainReads, AreNoted, Follows}
+use Rattle.like_roles.specs.worker.Follows.{Follows, IsDone}
 use Rattle.like_promises.specs.declared.log.Took.{Took}
 use Rattle.like_promises.specs.declared.log.WorkerLog.{WorkerLog}
-use Rattle.like_promises.specs.Likes.{likes_among, likes_within}
 use Rattle.like_promises.specs.Workload.{Workload}
 use Rattle.like_roles.specs.worker.WorkerView.{WorkerView, phase_at}
-use Rattle.like_promises.specs.Log.{IsLog}
-use Rattle.like_serial.specs.StepsTold.{plain_told, steps_ran}
+use Rattle.like_promises.specs.Log.{TakesPlans}
 
 -- the numbers that tell its board from others, the worker, the inboxes of its submitters by place, and how many items of
 -- each are open to it
@@ -78,10 +75,6 @@ pub record WorksFor (workload : Workload) (s : ServerView) : Type 0 where
   pub plans : AreOwnPlans workload s.worker.last.share.workers s.worker.last.share.worker s.inboxes
   pub follows : ReadMasksOf workload s → Follows workload s.worker
 
--- the phases of taking never fall
-abbrev pub IsRising : List Took → Type 0
-IsRising taken = AllPairs (λ s t. s.phase ≤ t.phase) taken
-
 -- nothing was taken in a phase above the one that was seen last
 abbrev pub NoneAbove : Option Sight → List Took → Type 0
 NoneAbove None taken = taken ≡ []
@@ -96,7 +89,7 @@ pub record Agree (v : WorkerView) (inboxes : List InboxView) : Type 0 where
   pub places : length v.ended ≡ length inboxes
   pub each : (place : ℕ) (i : InboxView) → slice_get inboxes place ≡ Some i → AgreesAt v place i
   pub taken : (submitter : ℕ) → numbers_taken submitter v.taken ≡ numbers_given v.last.share inboxes submitter
-  pub rising : IsRising v.taken
+  pub rising : AllPairs (λ s t. s.phase ≤ t.phase) v.taken
   pub above : NoneAbove v.post.last v.taken
   pub present : v.post.state ≢ Gone → IfSome v.post.last (λ sight. sight.number ≡ phase_at v)
   pub unnoted : v.notes ≡ false → v.adds ≡ []
@@ -117,29 +110,17 @@ pub record ServerGoesOn (s t : ServerView) : Type 0 where
   pub inboxes : length t.inboxes ≡ length s.inboxes
   pub works : (workload : Workload) → WorksFor workload s → WorksFor workload t
 
--- a server has worked for a workload: it works for it, and the masks that it read are the workload's
-abbrev pub HasWorkedFor : Workload → ServerView → Type 0
-HasWorkedFor workload s = WorksFor workload s × ReadMasksOf workload s
-
--- a server's log is right for a workload: it is a log of the workload; its likes are the additions of the
--- server's post, in all and phase by phase; the plain steps of its entries are the post's, and each step that adds nothing
--- is plain; and the additions are noted if they are to be
-pub record IsLogFor (workload : Workload) (s : ServerView) (log : WorkerLog) : Type 0 where
-  pub is_log : IsLog workload s.worker.last.share.workers s.worker.last.share.worker log
-  pub likes : (page : ℕ) → likes_among workload page log.ran.items ≡ additions_of s.worker.post page
-  pub by_phase : (phase page : ℕ)
-      → likes_within workload page log.ran.items phase ≡ additions_in s.worker.post phase page
-  pub steps : plain_told workload (earliest_first s.worker.post.did) ≡ steps_ran workload log.ran.items
-  pub reads : ArePlainReads workload s.worker.post.did
-  pub noted : s.worker.notes ≡ true → AreNoted workload s.worker
-
--- a server leaves this log: it is what its worker took, ran and noted, has nothing taken above the phase that it saw
--- last, and is right for each workload that the server worked for
+-- a server leaves this log: it is what its worker took, ran and noted, in phases that never fall, and none above the one
+-- that it saw last. For each workload that the server worked for and whose masks it read, the worker took the plans of its
+-- submitters, and has done as they say
 pub record IsLogOf (s : ServerView) (log : WorkerLog) : Type 0 where
-  pub share : log.last.share ≡ s.worker.last.share
+  pub last : log.last ≡ s.worker.last
   pub taken : log.taken.items ≡ s.worker.taken
   pub ran : log.ran.items ≡ s.worker.ran
   pub adds : log.adds.items ≡ s.worker.adds
   pub unnoted : s.worker.notes ≡ false → log.adds.items ≡ []
+  pub rising : AllPairs (λ s t. s.phase ≤ t.phase) log.taken.items
   pub above : NoneAbove s.worker.post.last log.taken.items
-  pub each : (workload : Workload) → HasWorkedFor workload s → IsLogFor workload s log
+  pub each : (workload : Workload) → WorksFor workload s → ReadMasksOf workload s
+      → TakesPlans workload s.worker.last.share.workers s.worker.last.share.worker s.worker.taken
+      × IsDone workload s.worker

@@ -8,7 +8,7 @@ use Rattle.like_roles.specs.declared.turn.Turn.{Turn}
 use Rattle.like_roles.specs.declared.turn.Turn.TheVariants.{Try}
 use Rattle.like_roles.specs.worker.Turns.{Gives, Turns}
 use Rattle.like_roles.specs.worker.WorkerView.{WorkerView}
-use Rattle.like_crew.specs.Fresh.{IsModelled}
+use Rattle.like_crew.specs.Fresh.{AllOpen, IsModelled}
 use Rattle.like_crew.specs.Server.{ServerView}
 
 -- the place of a submitter's inbox
@@ -39,10 +39,6 @@ pub record IsTurn (answer : Turn) (s t : ServerView) : Type 0 where
   pub whole : ServerTurns answer s t
   pub modelled : IsModelled s t
 
--- some whole turn of a server
-abbrev pub MakesTurn : ServerView → ServerView → Type 0
-MakesTurn s t = (answer : Turn) × IsTurn answer s t
-
 -- one item more of a submitter's list is open, if not all were
 pub record OpensOne (submitter : ℕ) (s t : ServerView) : Type 0 where
   pub inbox : InboxView
@@ -54,6 +50,5 @@ pub record OpensOne (submitter : ℕ) (s t : ServerView) : Type 0 where
 
 -- all items of its lists are open
 pub record OpensAll (s t : ServerView) : Type 0 where
-  pub all : (place : ℕ) (inbox : InboxView) → slice_get s.inboxes place ≡ Some inbox
-      → slice_get t.opened place ≡ Some (item_count inbox.plan)
+  pub all : AllOpen t
   pub rest : t ≡ record s { opened = t.opened }

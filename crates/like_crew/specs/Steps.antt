@@ -10,7 +10,7 @@ use Rattle.like_roles.specs.declared.turn.Turn.{Turn}
 use Rattle.like_crew.specs.Crew.{AreGone, CrewView}
 use Rattle.like_crew.specs.Fresh.{LooksFresh, ShowsWorkers}
 use Rattle.like_crew.specs.Server.{ServerView}
-use Rattle.like_crew.specs.ServerTurns.{IsTurn, MakesTurn, OpensOne, TakesOpen}
+use Rattle.like_crew.specs.ServerTurns.{IsTurn, OpensOne, TakesOpen}
 
 -- a step of the server of one worker, and of no other
 pub record AtServer (worker : ℕ) (Step : ServerView → ServerView → Type 0) (ss ts : List ServerView)
@@ -42,28 +42,12 @@ pub record LeadsFresh (answer : CoordTurn) (c d : CrewView) : Type 0 where
   pub fresh : ShowsWorkers c.coordinator.seat.phase c.servers turn.sight
   pub rest : d.servers ≡ c.servers
 
--- some such turn, and whether it answered that the run has ended
-pub record LeadsToEnd (ended : Bool) (c d : CrewView) : Type 0 where
-  pub answer : CoordTurn
-  pub leads : LeadsFresh answer c d
-  pub tells : (ended ≡ true) ↔ (answer ≡ Ended)
-
--- a round: a turn of the coordinator, and one of each worker. The run ended with it if the coordinator answered that it
--- has, and all workers are gone
-pub record IsRound (ended : Bool) (c d : CrewView) : Type 0 where
-  pub answer : CoordTurn
-  pub coordinator : CoordTurns c.coordinator answer d.coordinator
-  pub servers : AllZip MakesTurn c.servers d.servers
-  pub tells : (ended ≡ true) ↔ ((answer ≡ Ended) × AreGone d.servers)
-
--- the looks of a round are fresh: the coordinator looks first, and then the workers
-pub record LookFresh {ended : Bool} {c d : CrewView} (round : IsRound ended c d) : Type 0 where
-  pub coordinator : ShowsWorkers c.coordinator.seat.phase c.servers round.coordinator.sight
-  pub workers : let seat = d.coordinator.seat in
-      AllZip (LooksFresh seat.phase seat.ending) c.servers d.servers
-
--- a round whose looks are fresh, and which takes only what is open
+-- a round: a turn of the coordinator, and then one of each worker, whose looks are fresh. The run ended with it if the
+-- coordinator answered that it has, and all workers are gone
 pub record FreshRound (ended : Bool) (c d : CrewView) : Type 0 where
-  pub round : IsRound ended c d
-  pub looks : LookFresh round
-  pub only_open : AllZip TakesOpen c.servers d.servers
+  pub answer : CoordTurn
+  pub led : CrewView
+  pub leads : LeadsFresh answer c led
+  pub workers : AllZip (MakesFreshTurn led.coordinator.seat) led.servers d.servers
+  pub rest : d.coordinator ≡ led.coordinator
+  pub tells : (ended ≡ true) ↔ ((answer ≡ Ended) × AreGone d.servers)

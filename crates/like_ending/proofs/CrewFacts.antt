@@ -10,7 +10,7 @@ use Rattle.like_ending.specs.Progress.{CrewProgress, WorkerProgress, remaining, 
 use Rattle.like_ending.specs.FreshCoordTurns.{FreshCoordTurns, ends, counts, stays, announces, releases, waits}
 use Rattle.like_ending.specs.InPhase.{IsCrewInPhase, SuitsPhase}
 use Rattle.like_ending.specs.Schedules.{HasTurn, Participant, HasTurnAt, coordinator, worker}
-use Rattle.like_ending.specs.Measures.{changes_ahead, changes_in, distance, turns_ahead, work_ahead}
+use Rattle.like_ending.specs.Measures.{changes_ahead, changes_in, distance, work_ahead}
 use Rattle.like_ending.proofs.WorkerFacts.{Keeps, turn_does}
 use Rattle.like_ending.proofs.Sums.{sum_set, set_same, holds_at, sum_most}
 
@@ -99,8 +99,8 @@ coord_keeps c d p (ends gone e) = crew_same c d p e
 coord_keeps c d p (stays there run none last e) = crew_same c d p e
 coord_keeps c d p (waits there now out e) = crew_same c d p e
 coord_keeps c d p (counts there run some e) =
-    let ahead : turns_ahead c.ending c.left ≡ c.left + 1 = ap (λ b. turns_ahead b c.left) run in
-    let ahead_now : turns_ahead c.ending (c.left - 1) ≡ c.left - 1 + 1 = ap (λ b. turns_ahead b (c.left - 1)) run in
+    let ahead : cond c.ending 0 (c.left + 1) ≡ c.left + 1 = ap (λ b. cond b 0 (c.left + 1)) run in
+    let ahead_now : cond c.ending 0 (c.left - 1 + 1) ≡ c.left - 1 + 1 = ap (λ b. cond b 0 (c.left - 1 + 1)) run in
     let left = p.left in
     subst (CrewKeeps c) (sym e)
     (record {
@@ -111,7 +111,7 @@ coord_keeps c d p (counts there run some e) =
       closer = inl (omega arith);
     })
 coord_keeps c d p (announces there run none last e) =
-    let ahead : turns_ahead c.ending c.left ≡ c.left + 1 = ap (λ b. turns_ahead b c.left) run in
+    let ahead : cond c.ending 0 (c.left + 1) ≡ c.left + 1 = ap (λ b. cond b 0 (c.left + 1)) run in
     subst (CrewKeeps c) (sym e)
     (record {
       in_phase = record {
@@ -126,7 +126,7 @@ coord_keeps c d p (announces there run none last e) =
       closer = inl (omega arith);
     })
 coord_keeps c d p (releases there now all e) =
-    let ahead : turns_ahead c.ending c.left ≡ 0 = ap (λ b. turns_ahead b c.left) now in
+    let ahead : cond c.ending 0 (c.left + 1) ≡ 0 = ap (λ b. cond b 0 (c.left + 1)) now in
     let below = p.last now in
     let works : sum_by (work_ahead (c.phase + 1)) c.workers
     ≤ sum_by (work_ahead c.phase) c.workers + 2 * length c.workers =

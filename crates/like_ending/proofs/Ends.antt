@@ -1,5 +1,5 @@
 -- Steps that lower a measure end.
-use Rattle.std.proofs.Common.{◌≡◌, ℕ, zero, suc, ◌+◌, ◌*◌, ◌-◌, ◌<◌, ◌≤◌, inl, inr, Bool, true, false, List, [], ◌∷◌, length, map, sum_by, All, subst, ap, sym, ◌∙◌, refl, arith}
+use Rattle.std.proofs.Common.{◌≡◌, ℕ, zero, suc, ◌+◌, ◌*◌, ◌-◌, ◌<◌, ◌≤◌, inl, inr, Bool, true, false, cond, List, [], ◌∷◌, length, map, sum_by, All, subst, ap, sym, ◌∙◌, refl, arith}
 use Rattle.std.specs.List.{Contains}
 use Rattle.std.proofs.Math.Nat.{mul-le-mul_left}
 use Rattle.std.proofs.lemmas.List.Sums.{sum_by-cons, sum_by-le-sum_by}
@@ -9,7 +9,7 @@ use Rattle.like_core.specs.Phase.{last_phase}
 use Rattle.like_ending.specs.Progress.{AllAreGone, CrewProgress, IsStart, WorkerProgress, items_in, one_until_gone, remaining, remaining_in}
 use Rattle.like_ending.specs.InPhase.{IsCrewInPhase, SuitsPhase}
 use Rattle.like_ending.specs.Schedules.{TakeTurns, IsFairRound, IsFreshRound, Participant, Unended, coordinator, worker}
-use Rattle.like_ending.specs.Measures.{changes_ahead, distance, measure, turns_ahead, work_ahead}
+use Rattle.like_ending.specs.Measures.{changes_ahead, distance, measure, work_ahead}
 use Rattle.like_ending.specs.Laws.{MayLast, RoundsEnd, FairRoundsEnd, RoundsLower}
 use Rattle.like_ending.proofs.CrewFacts.{CrewKeeps, crew_keeps}
 use Rattle.like_ending.proofs.Rests.{rest_most, some_there, there_of}
@@ -233,7 +233,7 @@ pub start_distance : (c : CrewProgress)
 start_distance c s =
     let new = new_work c.workers s.runs s.none in
     let left = s.left in
-    let ahead : turns_ahead c.ending c.left ≡ c.left + 1 = ap (λ b. turns_ahead b c.left) s.ending in
+    let ahead : cond c.ending 0 (c.left + 1) ≡ c.left + 1 = ap (λ b. cond b 0 (c.left + 1)) s.ending in
     let works : sum_by (work_ahead c.phase) c.workers ≡ sum_by (work_ahead 0) c.workers =
     ap (λ n. sum_by (work_ahead n) c.workers) s.phase
     in

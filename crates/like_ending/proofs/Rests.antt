@@ -5,7 +5,7 @@ use Rattle.std.proofs.lemmas.Bool.{ne_eqb, cases_Bool, cases_lt, eqb-true, eqb-f
 use Rattle.like_core.specs.Phase.{IsJoined, IsSplit}
 use Rattle.like_ending.specs.Progress.{AllAreGone, AllAreIn, CrewProgress, one_until_gone}
 use Rattle.like_ending.specs.InPhase.{IsCrewInPhase}
-use Rattle.like_ending.specs.Measures.{one_until_in, one_until_all_in, rest, rest_of}
+use Rattle.like_ending.specs.Measures.{changes_ahead, one_until_all_in, rest, rest_of}
 use Rattle.like_ending.proofs.States.{in_none, none_gone, none_in}
 use Rattle.like_ending.proofs.Sums.{none_in_sum, sum_none}
 
@@ -55,9 +55,9 @@ pub split_ending : (c : CrewProgress)
     → rest c ≡ (c.turns + 1) * one_until_all_in c
 split_ending c odd now = rest_is c true true (split_is c.phase odd) now
 
--- how many workers have yet to answer
+-- how many changes of state the workers have ahead
 abbrev pub out_of : CrewProgress → ℕ
-out_of c = sum_by (λ w. one_until_in c.phase w.state) c.workers
+out_of c = sum_by (λ w. changes_ahead c.phase w.state) c.workers
 
 -- how many workers are not gone
 abbrev pub there_of : CrewProgress → ℕ
@@ -66,12 +66,12 @@ there_of c = sum_by (λ w. one_until_gone w.state) c.workers
 -- all are in where none has yet to answer, and the other way round
 pub all_in_none : (c : CrewProgress) → AllAreIn c → out_of c ≡ 0
 all_in_none c all =
-    sum_none (λ w. one_until_in c.phase w.state) c.workers (λ k w at. in_none c.phase _ (all k w at))
+    sum_none (λ w. changes_ahead c.phase w.state) c.workers (λ k w at. in_none c.phase _ (all k w at))
 
 pub none_all_in : (c : CrewProgress) → IsCrewInPhase c → out_of c ≡ 0 → AllAreIn c
 none_all_in c p none =
     λ k w at. none_in c.phase c.ending _ (p.suits k w at)
-    (none_in_sum (λ x. one_until_in c.phase x.state) c.workers none k w at)
+    (none_in_sum (λ x. changes_ahead c.phase x.state) c.workers none k w at)
 
 -- all are gone where none is there
 pub none_all_gone : (c : CrewProgress) → there_of c ≡ 0 → AllAreGone c

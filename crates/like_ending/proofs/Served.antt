@@ -9,7 +9,7 @@ use Rattle.like_ending.specs.Progress.{CrewProgress, WorkerProgress, one_until_g
 use Rattle.like_ending.specs.FreshTurns.{FreshTurns}
 use Rattle.like_ending.specs.InPhase.{IsCrewInPhase, SuitsPhase}
 use Rattle.like_ending.specs.Schedules.{TakeTurns, HasTurnAt, worker}
-use Rattle.like_ending.specs.Measures.{one_until_in}
+use Rattle.like_ending.specs.Measures.{changes_ahead}
 use Rattle.like_ending.proofs.WorkerFacts.{GetsDone, Keeps, turn_does}
 use Rattle.like_ending.proofs.CrewFacts.{crew_keeps}
 use Rattle.like_ending.proofs.Rests.{there_of}
@@ -19,13 +19,13 @@ use Rattle.like_ending.proofs.Sums.{holds_at, sum_both, sum_none, sum_pairs, zip
 record Since (phase : ℕ) (ending : Bool) (w v : WorkerProgress) : Type 0 where
   pub suits : SuitsPhase phase ending v.state
   pub less : remaining v ≤ remaining w
-  pub out : one_until_in phase v.state ≤ one_until_in phase w.state
+  pub out : changes_ahead phase v.state ≤ changes_ahead phase w.state
 
 -- what one turn of a worker gets done, or more
 record Done (phase : ℕ) (ending : Bool) (w v : WorkerProgress) : Type 0 where
   pub running : IsJoined phase → ending ≡ false → remaining v + one_until_gone w.state ≤ remaining w
-  pub joined : IsJoined phase → ending ≡ true → remaining v + one_until_in phase v.state ≤ remaining w
-  pub split : IsSplit phase → ending ≡ true → one_until_in phase v.state ≡ 0
+  pub joined : IsJoined phase → ending ≡ true → remaining v + changes_ahead phase v.state ≤ remaining w
+  pub split : IsSplit phase → ending ≡ true → changes_ahead phase v.state ≡ 0
 
 -- both
 record Serving (phase : ℕ) (ending : Bool) (w v : WorkerProgress) : Type 0 where
@@ -71,15 +71,15 @@ pub record Served (led : CrewProgress) (ws : List WorkerProgress) : Type 0 where
   pub less : sum_by remaining ws ≤ remaining_in led
   pub running : IsJoined led.phase → led.ending ≡ false → sum_by remaining ws + there_of led ≤ remaining_in led
   pub joined : IsJoined led.phase → led.ending ≡ true
-      → sum_by remaining ws + sum_by (λ w. one_until_in led.phase w.state) ws ≤ remaining_in led
-  pub split : IsSplit led.phase → led.ending ≡ true → sum_by (λ w. one_until_in led.phase w.state) ws ≡ 0
+      → sum_by remaining ws + sum_by (λ w. changes_ahead led.phase w.state) ws ≤ remaining_in led
+  pub split : IsSplit led.phase → led.ending ≡ true → sum_by (λ w. changes_ahead led.phase w.state) ws ≡ 0
 
 served_from : (led : CrewProgress) (ws : List WorkerProgress)
     → AllZip (Serving led.phase led.ending) led.workers ws
     → Served led ws
 served_from led ws pairs =
     let S = Serving led.phase led.ending in
-    let out : WorkerProgress → ℕ = λ v. one_until_in led.phase v.state in
+    let out : WorkerProgress → ℕ = λ v. changes_ahead led.phase v.state in
     let none : WorkerProgress → ℕ = λ v. 0 in
     let zero_sum : sum_by none led.workers ≡ 0 = sum_none none led.workers (λ k d there. refl) in
     record {

@@ -6,13 +6,12 @@ use Rattle.like_core.specs.declared.worker_state.WorkerState.TheVariants.{Runs, 
 use Rattle.like_core.specs.WorkerState.{IsIn, RunsSome, looked}
 use Rattle.like_ending.specs.Progress.{one_until_gone}
 use Rattle.like_ending.specs.InPhase.{SuitsPhase}
-use Rattle.like_ending.specs.Measures.{one_until_in, changes_ahead}
+use Rattle.like_ending.specs.Measures.{changes_ahead}
 
 -- a worker that runs after its look runs the present phase, of which P holds; it is not in, and not gone
 pub record Enters (P : ℕ → Type 0) (phase : ℕ) (state : WorkerState) : Type 0 where
   pub runs : looked phase state ≡ Runs phase
   pub holds : P phase
-  pub out : one_until_in phase state ≡ 1
   pub ahead : 1 ≤ changes_ahead phase state
   pub there : one_until_gone state ≡ 1
 
@@ -36,7 +35,6 @@ enters_next P phase j next runs =
     record {
       runs = now;
       holds = subst (RunsSome P) now runs;
-      out = cond-true (nat_lt j phase) 1 0 below;
       ahead = omega arith;
       there = refl;
     }
@@ -46,37 +44,33 @@ pub enters : (P : ℕ → Type 0) (phase : ℕ) (ending : Bool) (state : WorkerS
     → RunsSome P (looked phase state)
     → Enters P phase state
 enters P phase ending (Runs j) suits runs =
-    record { runs = ap Runs suits; holds = subst P suits runs; out = refl; ahead = omega arith; there = refl }
+    record { runs = ap Runs suits; holds = subst P suits runs; ahead = omega arith; there = refl }
 enters P phase ending (Answered j) suits runs = elim suits [
   | inl now ↦ absurd (stays_answered P phase j now.0 runs)
   | inr next ↦ enters_next P phase j next runs
 ]
 enters P phase ending Gone suits runs = absurd runs
 
--- who has answered a phase that is no earlier is in
-pub answered_in : (phase j : ℕ) → phase ≤ j → one_until_in phase (Answered j) ≡ 0
-answered_in phase j past = cond-false (nat_lt j phase) 1 0 (le-ltb j phase past)
-
--- and has no change ahead
+-- who has answered a phase that is no earlier has no change ahead
 pub answered_ahead : (phase j : ℕ) → phase ≤ j → changes_ahead phase (Answered j) ≡ 0
 answered_ahead phase j past = cond-false (nat_lt j phase) 2 0 (le-ltb j phase past)
 
--- who is in is not counted
-pub in_none : (phase : ℕ) (state : WorkerState) → IsIn phase state → one_until_in phase state ≡ 0
+-- who is in has none ahead
+pub in_none : (phase : ℕ) (state : WorkerState) → IsIn phase state → changes_ahead phase state ≡ 0
 in_none phase (Runs j) is = absurd is
-in_none phase (Answered j) is = answered_in phase j (omega arith)
+in_none phase (Answered j) is = answered_ahead phase j (omega arith)
 in_none phase Gone is = refl
 
--- who isn't counted is in
+-- who has none ahead is in
 pub none_in : (phase : ℕ) (ending : Bool) (state : WorkerState)
     → SuitsPhase phase ending state
-    → one_until_in phase state ≡ 0
+    → changes_ahead phase state ≡ 0
     → IsIn phase state
 none_in phase ending (Runs j) suits none = absurd (omega (arith, none))
 none_in phase ending (Answered j) suits none = elim suits [
   | inl now ↦ now.0
   | inr next ↦
-      let one : one_until_in phase (Answered j) ≡ 1 = cond-true (nat_lt j phase) 1 0 (lt-ltb j phase (omega arith)) in
+      let two : changes_ahead phase (Answered j) ≡ 2 = cond-true (nat_lt j phase) 2 0 (lt-ltb j phase (omega arith)) in
       absurd (omega arith)
 ]
 none_in phase ending Gone suits none = tt

@@ -8,7 +8,7 @@ use Rattle.like_ending.specs.Progress.{AllAreGone, CrewProgress, WorkerProgress,
 use Rattle.like_ending.specs.FreshCoordTurns.{FreshCoordTurns, ends, counts, stays, announces, releases, waits}
 use Rattle.like_ending.specs.InPhase.{IsCrewInPhase, SuitsPhase}
 use Rattle.like_ending.specs.Schedules.{TakeTurns, IsFairStretch, HasTurn, Participant, TakesPart, HasTurnAt, coordinator, worker}
-use Rattle.like_ending.specs.Measures.{distance, one_until_in, work_ahead}
+use Rattle.like_ending.specs.Measures.{changes_ahead, distance, work_ahead}
 use Rattle.like_ending.specs.Laws.{FairSchedulesEnd, FairStretchesLower}
 use Rattle.like_ending.proofs.WorkerFacts.{GetsDone, turn_does}
 use Rattle.like_ending.proofs.CrewFacts.{CrewKeeps, crew_keeps}
@@ -65,7 +65,7 @@ coord_lowers c d p some has (waits there now out e) = elim has [
 HasToWork : CrewProgress → WorkerProgress → Type 0
 HasToWork c w =
     (IsJoined c.phase × (c.ending ≡ false) × (1 ≤ one_until_gone w.state))
-    ⊎ ((c.ending ≡ true) × (1 ≤ one_until_in c.phase w.state))
+    ⊎ ((c.ending ≡ true) × (1 ≤ changes_ahead c.phase w.state))
 
 worker_lowers : (c d : CrewProgress) (i : ℕ) (w : WorkerProgress)
     → IsCrewInPhase c
@@ -126,7 +126,7 @@ unfolding HasToLead HasToWork
 mover c p some = elim (cases_Bool c.ending) [
   | inl now ↦ elim (cases_lt 0 (out_of c)) [
     | inl more ↦
-        let found = some_in_sum (λ (x : WorkerProgress). one_until_in c.phase x.state) c.workers more in
+        let found = some_in_sum (λ (x : WorkerProgress). changes_ahead c.phase x.state) c.workers more in
         worker_mover c found.0 found.1.0 p found.1.1.0 (inr (now, found.1.1.1))
     | inr none ↦ coord_mover c p some (inr (now, omega arith))
   ]

@@ -7,24 +7,24 @@ use Rattle.like_core.specs.WorkerState.{looked, phase_of}
 use Rattle.like_ending.specs.Progress.{WorkerProgress, one_until_gone, remaining}
 use Rattle.like_ending.specs.FreshTurns.{FreshWorks, FreshTurns, saw, runs_held, retires, acknowledges, takes_joined, finds_nothing, reports, idles, takes_split, stashes, is_gone, waits, works}
 use Rattle.like_ending.specs.InPhase.{SuitsPhase}
-use Rattle.like_ending.specs.Measures.{one_until_in, changes_ahead, work_ahead}
-use Rattle.like_ending.proofs.States.{Enters, enters, answered_in, answered_ahead}
+use Rattle.like_ending.specs.Measures.{changes_ahead, work_ahead}
+use Rattle.like_ending.proofs.States.{Enters, enters, answered_ahead}
 
 -- what each turn keeps, whether all lists are open or not: its state suits the phase; nothing of it rises; and if
 -- anything changes, less is ahead
 pub record Keeps (phase : ℕ) (ending : Bool) (w v : WorkerProgress) : Type 0 where
   pub suits : SuitsPhase phase ending v.state
   pub less : remaining v ≤ remaining w
-  pub out : one_until_in phase v.state ≤ one_until_in phase w.state
+  pub out : changes_ahead phase v.state ≤ changes_ahead phase w.state
   pub ahead : (work_ahead phase v + 1 ≤ work_ahead phase w) ⊎ (v ≡ w)
 
 -- what a turn gets done, if all lists are open
 pub record GetsDone (phase : ℕ) (ending : Bool) (w v : WorkerProgress) : Type 0 where
   pub running : IsJoined phase → ending ≡ false → remaining v + one_until_gone w.state ≤ remaining w
-  pub joined : IsJoined phase → ending ≡ true → remaining v + one_until_in phase v.state ≤ remaining w
-  pub split : IsSplit phase → ending ≡ true → one_until_in phase v.state ≡ 0
+  pub joined : IsJoined phase → ending ≡ true → remaining v + changes_ahead phase v.state ≤ remaining w
+  pub split : IsSplit phase → ending ≡ true → changes_ahead phase v.state ≡ 0
   pub work : IsJoined phase → ending ≡ false → work_ahead phase v + one_until_gone w.state ≤ work_ahead phase w
-  pub work_ending : ending ≡ true → work_ahead phase v + one_until_in phase w.state ≤ work_ahead phase w
+  pub work_ending : ending ≡ true → work_ahead phase v + changes_ahead phase w.state ≤ work_ahead phase w
 
 -- a worker that stays as it is keeps all
 pub keeps_same : (phase : ℕ) (ending : Bool) (w v : WorkerProgress)
@@ -34,44 +34,42 @@ pub keeps_same : (phase : ℕ) (ending : Bool) (w v : WorkerProgress)
 keeps_same phase ending w v suits same = record {
   suits = subst (λ (x : WorkerProgress). SuitsPhase phase ending x.state) (sym same) suits;
   less = subst (λ (x : WorkerProgress). remaining x ≤ remaining w) (sym same) (omega arith);
-  out = subst (λ (x : WorkerProgress). one_until_in phase x.state ≤ one_until_in phase w.state) (sym same)
+  out = subst (λ (x : WorkerProgress). changes_ahead phase x.state ≤ changes_ahead phase w.state) (sym same)
       (omega arith);
   ahead = inr same;
 }
 
 -- what counts of a state that suits the phase
-record Counts (phase : ℕ) (ending : Bool) (state : WorkerState) (out ahead there : ℕ) : Type 0 where
+record Counts (phase : ℕ) (ending : Bool) (state : WorkerState) (ahead there : ℕ) : Type 0 where
   pub suits : SuitsPhase phase ending state
-  pub out_is : one_until_in phase state ≡ out
   pub ahead_is : changes_ahead phase state ≡ ahead
   pub there_is : one_until_gone state ≡ there
 
 counts_running : (phase : ℕ) (ending : Bool) (state : WorkerState)
     → state ≡ Runs phase
-    → Counts phase ending state 1 1 1
+    → Counts phase ending state 1 1
 counts_running phase ending state is =
-    subst (λ (s : WorkerState). Counts phase ending s 1 1 1) (sym is)
-    (record { suits = refl; out_is = refl; ahead_is = refl; there_is = refl })
+    subst (λ (s : WorkerState). Counts phase ending s 1 1) (sym is)
+    (record { suits = refl; ahead_is = refl; there_is = refl })
 
 counts_answered : (phase : ℕ) (ending : Bool) (state : WorkerState)
     → state ≡ Answered phase
     → ending ≡ true
-    → Counts phase ending state 0 0 1
+    → Counts phase ending state 0 1
 counts_answered phase ending state is now =
-    subst (λ (s : WorkerState). Counts phase ending s 0 0 1) (sym is)
+    subst (λ (s : WorkerState). Counts phase ending s 0 1) (sym is)
     (record {
       suits = inl (refl, now);
-      out_is = answered_in phase phase (omega arith);
       ahead_is = answered_ahead phase phase (omega arith);
       there_is = refl;
     })
 
 counts_gone : (phase : ℕ) (ending : Bool) (state : WorkerState)
     → state ≡ Gone
-    → Counts phase ending state 0 0 0
+    → Counts phase ending state 0 0
 counts_gone phase ending state is =
-    subst (λ (s : WorkerState). Counts phase ending s 0 0 0) (sym is)
-    (record { suits = tt; out_is = refl; ahead_is = refl; there_is = refl })
+    subst (λ (s : WorkerState). Counts phase ending s 0 0) (sym is)
+    (record { suits = tt; ahead_is = refl; there_is = refl })
 
 -- what a turn keeps, and what it gets done if all lists are open
 abbrev pub Does : Bool → ℕ → Bool → WorkerProgress → WorkerProgress → Type 0
@@ -152,7 +150,7 @@ works_does all_open phase ending w v suits (retires even no_looks no_items e) =
       λ opened. record {
         running = λ j r. omega arith;
         joined = λ j r. omega arith;
-        split = λ odd r. c.out_is;
+        split = λ odd r. c.ahead_is;
         work = λ j r. omega arith;
         work_ending = λ r. omega arith;
       },
@@ -169,7 +167,7 @@ works_does all_open phase ending w v suits (acknowledges even no_looks some now 
       λ opened. record {
         running = λ j r. absurd (cc);
         joined = λ j r. omega arith;
-        split = λ odd r. c.out_is;
+        split = λ odd r. c.ahead_is;
         work = λ j r. absurd (cc);
         work_ending = λ r. omega arith;
       },
@@ -204,7 +202,7 @@ works_does all_open phase ending w v suits (reports odd now e) =
       λ opened. record {
         running = λ j r. absurd (cc);
         joined = λ j r. omega arith;
-        split = λ odd r. c.out_is;
+        split = λ odd r. c.ahead_is;
         work = λ j r. absurd (cc);
         work_ending = λ r. omega arith;
       },
@@ -233,14 +231,14 @@ works_does all_open phase ending w v suits (stashes odd now some e) =
 
 -- one that is in and stays as it is has all done, if it is gone or the phase is ending
 same_done : (phase : ℕ) (ending : Bool) (w v : WorkerProgress)
-    → one_until_in phase w.state ≡ 0
+    → changes_ahead phase w.state ≡ 0
     → v ≡ w
     → (ending ≡ false → one_until_gone w.state ≡ 0)
     → GetsDone phase ending w v
 same_done phase ending w v in_now same gone =
     let rem : remaining v ≡ remaining w = ap remaining same in
-    let out : one_until_in phase v.state ≡ one_until_in phase w.state =
-    ap (λ (x : WorkerProgress). one_until_in phase x.state) same
+    let out : changes_ahead phase v.state ≡ changes_ahead phase w.state =
+    ap (λ (x : WorkerProgress). changes_ahead phase x.state) same
     in
     let ahead : work_ahead phase v ≡ work_ahead phase w = ap (work_ahead phase) same in
     record {
@@ -259,7 +257,7 @@ pub turn_does : (all_open : Bool) (phase : ℕ) (ending : Bool) (w v : WorkerPro
 turn_does all_open phase ending w v suits (is_gone gone e) =
     let c = counts_gone phase ending w.state gone in (
       keeps_same phase ending w v suits e,
-      λ opened. same_done phase ending w v c.out_is e (λ r. c.there_is),
+      λ opened. same_done phase ending w v c.ahead_is e (λ r. c.there_is),
     )
 turn_does all_open phase ending w v suits (waits has e) =
     let now : ending ≡ true =
@@ -267,6 +265,6 @@ turn_does all_open phase ending w v suits (waits has e) =
     in
     let c = counts_answered phase ending w.state has now in (
       keeps_same phase ending w v suits e,
-      λ opened. same_done phase ending w v c.out_is e (λ r. absurd (cc)),
+      λ opened. same_done phase ending w v c.ahead_is e (λ r. absurd (cc)),
     )
 turn_does all_open phase ending w v suits (works does) = works_does all_open phase ending w v suits does

@@ -6,15 +6,16 @@ use Rattle.like_core.specs.declared.worker_state.WorkerState.TheVariants.{Runs, 
 use Rattle.like_core.specs.Phase.{last_phase}
 use Rattle.like_ending.specs.Progress.{CrewProgress, WorkerProgress, remaining_in}
 
--- 1 if the worker has yet to answer the phase, and 0 once it is in
-abbrev pub one_until_in : ℕ → WorkerState → ℕ
-one_until_in phase (Runs j) = 1
-one_until_in phase (Answered j) = (if nat_lt j phase then 1 else 0)
-one_until_in phase Gone = 0
+-- how many turns of a worker change its state in the present phase: it enters the phase, and answers it. None does once
+-- it is in
+abbrev pub changes_ahead : ℕ → WorkerState → ℕ
+changes_ahead phase (Runs j) = 1
+changes_ahead phase (Answered j) = (if nat_lt j phase then 2 else 0)
+changes_ahead phase Gone = 0
 
 -- 1 if some worker has yet to answer the phase, and 0 once all are in
 abbrev pub one_until_all_in : CrewProgress → ℕ
-one_until_all_in c = min 1 (sum_by (λ w. one_until_in c.phase w.state) c.workers)
+one_until_all_in c = min 1 (sum_by (λ w. changes_ahead c.phase w.state) c.workers)
 
 -- what is left of a phase that is split (or joined) and ending (or running), with so many turns in all and so many
 -- left, where some worker has yet to answer (1) or all are in (0)
@@ -33,29 +34,19 @@ rest c = rest_of (c.phase % 2 == 1) c.ending c.turns c.left (one_until_all_in c)
 abbrev pub measure : CrewProgress → ℕ
 measure c = (2 * c.turns + 4) * remaining_in c + rest c
 
--- how many turns of a worker change its state in the present phase: it enters the phase, and answers it
-abbrev pub changes_ahead : ℕ → WorkerState → ℕ
-changes_ahead phase (Runs j) = 1
-changes_ahead phase (Answered j) = (if nat_lt j phase then 2 else 0)
-changes_ahead phase Gone = 0
-
 -- what each turn of a worker lowers that changes anything
 abbrev pub work_ahead : ℕ → WorkerProgress → ℕ
 work_ahead phase w = changes_ahead phase w.state + 2 * w.items + w.looks
-
--- how many turns of the coordinator are ahead before it announces the end of the phase, that one among them
-abbrev pub turns_ahead : Bool → ℕ → ℕ
-turns_ahead false left = left + 1
-turns_ahead true left = 0
 
 -- how many turns change anything in a whole phase, at most: the coordinator counts its turns, announces and releases;
 -- each worker enters and answers
 abbrev pub changes_in : CrewProgress → ℕ
 changes_in c = c.turns + 2 * length c.workers + 2
 
--- what each turn lowers that changes anything: the phases up to the last, and what is ahead in this one
+-- what each turn lowers that changes anything: the phases up to the last, and what is ahead in this one. Before the
+-- coordinator announces its end, that is the turns left to it and the one that announces
 abbrev pub distance : CrewProgress → ℕ
 distance c =
     (last_phase - c.phase) * changes_in c
-    + turns_ahead c.ending c.left
+    + (if c.ending then 0 else c.left + 1)
     + sum_by (work_ahead c.phase) c.workers

@@ -7,7 +7,6 @@ use Rattle.like_requests.specs.declared.request.Request.{Request}
 use Rattle.like_requests.specs.declared.script.Turned.{Turned}
 use Rattle.like_requests.specs.declared.script.Turned.TheVariants.{OpenOne, Worker, Coordinator}
 use Rattle.like_requests.specs.declared.setup.Setup.{Setup}
-use Rattle.like_ending.specs.FreshCoordTurns.{FreshCoordTurns}
 use Rattle.like_ending.specs.Laws.{MayLast}
 use Rattle.like_ending.specs.Progress.{WorkerProgress, items_in}
 use Rattle.like_ending.specs.Schedules.{IsFreshRound, Participant, TakeTurns, Unended, coordinator, worker}
@@ -15,14 +14,14 @@ use Rattle.like_ending.proofs.Ends.{rounds_end}
 use Rattle.like_ending.proofs.Sums.{set_same}
 use Rattle.like_crew.specs.Crew.{CrewView, IsNewCrew}
 use Rattle.like_crew.specs.Fresh.{AllOpen}
-use Rattle.like_crew.specs.Progress.{items_of, progress_in, progress_of, progress_with}
-use Rattle.like_crew.proofs.Leading.{coordinator-modelled}
-use Rattle.like_crew.proofs.Rounds.{round-goes-on, round-modelled}
+use Rattle.like_crew.specs.Progress.{items_of, progress_of}
+use Rattle.like_crew.proofs.Progress.{progress_in, progress_with}
+use Rattle.like_crew.proofs.Rounds.{leads-modelled, round-goes-on, round-modelled}
 use Rattle.like_crew.proofs.Starting.{new-items, new-start, new-turns, new-workers}
-use Rattle.like_crew.proofs.servers.Turning.{all-opened, all-stay-open, opened-one}
+use Rattle.like_crew.proofs.servers.Turning.{all-opened, opened-one}
 use Rattle.like_run.specs.declared.rounds.fault.ReplayFault.{ReplayFault}
 use Rattle.like_run.specs.declared.rounds.fault.ReplayFault.TheVariants.{Settings, Memory, Unfinished}
-use Rattle.like_run.specs.Rounds.{IsPlayFault, IsReplayFaultUnderWay}
+use Rattle.like_run.specs.Rounds.{HasNotEnded, IsReplayFaultUnderWay, IsUnfinished}
 use Rattle.like_run.specs.Script.{Makes, MakesAll, MakesRounds, Plays}
 
 -- who has a turn by a script: opening a list is nobody's
@@ -73,14 +72,7 @@ entries-modelled (Worker w ∷ script) c d made =
       ),
     )
 entries-modelled (Coordinator ∷ script) c d made =
-    let led = made.1.0.1 in (
-      progress_in made.0,
-      (
-        subst (λ servers. FreshCoordTurns (progress_in c) (progress_with made.0.coordinator servers)) (sym led.rest)
-            (coordinator-modelled c.coordinator made.1.0.0 made.0.coordinator c.servers led.turn led.fresh),
-        entries-modelled script made.0 d made.1.1,
-      ),
-    )
+    (progress_in made.0, (leads-modelled made.1.0.0 c made.0 made.1.0.1, entries-modelled script made.0 d made.1.1))
 
 -- and so are rounds, with all lists open
 rounds-modelled : (n : ℕ) (c d : CrewView)
@@ -89,34 +81,28 @@ rounds-modelled : (n : ℕ) (c d : CrewView)
     → Unended IsFreshRound n (progress_in c) (progress_in d)
 rounds-modelled zero c d made lists = ap progress_in made
 rounds-modelled (suc n) c d made lists =
-    let r = made.1.0 in (
-      round-goes-on c made.0 r.round r.looks,
-      (
-        progress_in made.0,
-        (
-          round-modelled false c made.0 r.round r.looks lists,
-          rounds-modelled n made.0 d made.1.1 (all-stay-open c.servers made.0.servers lists r.round.servers),
-        ),
-      ),
+    let round = round-modelled false c made.0 made.1.0 lists in (
+      round-goes-on c made.0 made.1.0,
+      (progress_in made.0, (round.0, rounds-modelled n made.0 d made.1.1 round.1)),
     )
 
 -- all lists are opened
-open-all : (script : List Turned) (n : ℕ) (c d : CrewView) (p : Plays script n c d)
-    → (progress_in p.opened ≡ progress_in p.made) × All AllOpen p.opened.servers
-open-all script n c d p =
-    let opened = all-opened p.made.servers p.opened.servers p.opens in
+open-all : (script : List Turned) (c d : CrewView) (p : Plays script c d)
+    → (progress_in d ≡ progress_in p.made) × All AllOpen d.servers
+open-all script c d p =
+    let opened = all-opened p.made.servers d.servers p.opens in
     (λ m. record (progress_with (p.waits m) p.made.servers) { workers = opened.0 m }, opened.1)
 
-pub is-long : (setup : Setup) (plans : List (List Request)) (script : List Turned) (n : ℕ) (c d : CrewView)
-    (p : Plays script n c d)
+is-long : (setup : Setup) (plans : List (List Request)) (script : List Turned) (n : ℕ) (c b d : CrewView)
+    (p : Plays script c b)
+    → MakesRounds n b d
     → 0 < setup.workers
     → IsNewCrew setup plans c
     → MayLast setup.turns (items_of plans) setup.workers n
-is-long setup plans script n c d p some new =
-    let opened = open-all script n c d p in
+is-long setup plans script n c b d p made some new =
+    let opened = open-all script c b p in
     let rounds : Unended IsFreshRound n (progress_in p.made) (progress_in d) =
-    subst (λ b. Unended IsFreshRound n b (progress_in d)) opened.0
-    (rounds-modelled n p.opened d p.goes_round opened.1) in
+    subst (λ at. Unended IsFreshRound n at (progress_in d)) opened.0 (rounds-modelled n b d made opened.1) in
     let most : MayLast c.coordinator.turns (items_in (progress_in c)) (length (map progress_of c.servers)) n =
     rounds_end (participants script) n (progress_in c) (progress_in p.made) (progress_in d) (new-start setup plans c new)
     (entries-modelled script c p.made p.entries) rounds in
@@ -130,14 +116,14 @@ pub under-way : (setup : Setup) (plans : List (List Request)) (script : List Tur
     (fault : ReplayFault)
     → 0 < setup.workers
     → IsNewCrew setup plans c
-    → IsPlayFault script c fault
-    → IsReplayFaultUnderWay setup plans script fault
+    → IsReplayFaultUnderWay (HasNotEnded script c) fault
+    → IsReplayFaultUnderWay (IsUnfinished setup plans script) fault
 under-way setup plans script c (Settings why) some new h = absurd h
 under-way setup plans script c Memory some new h = tt
 under-way setup plans script c Unfinished some new h = record {
   start = c;
   new = new;
   not_ended = h;
-  long = subst (λ n. MayLast setup.turns (items_of plans) setup.workers n) h.all
-      (is-long setup plans script h.rounds c h.last h.plays some new);
+  long = subst (λ n. MayLast setup.turns (items_of plans) setup.workers n) h.most.all
+      (is-long setup plans script h.most.rounds c h.opened h.last h.plays h.most.goes_round some new);
 }

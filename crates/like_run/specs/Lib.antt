@@ -1,4 +1,3 @@
-pub mod Room
 pub mod Rounds
 pub mod Script
 pub mod Threads

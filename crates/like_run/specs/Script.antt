@@ -7,7 +7,7 @@ use Rattle.like_crew.specs.Crew.{CrewView, GoesOn}
 use Rattle.like_roles.specs.coordinator.CoordTurns.{HasEndedJoined}
 use Rattle.like_roles.specs.declared.coord_turn.CoordTurn.{CoordTurn}
 use Rattle.like_crew.specs.declared.outcome.Outcome.{Outcome}
-use Rattle.like_crew.specs.OwnCrew.{HasOutcome}
+use Rattle.like_crew.specs.Outcome.{HasOutcome}
 use Rattle.like_crew.specs.ServerTurns.{OpensAll}
 use Rattle.like_crew.specs.Steps.{AtServer, FreshRound, LeadsFresh, MakesFreshTurn, OpensMore}
 
@@ -48,23 +48,18 @@ pub record MakesMostRounds (c d : CrewView) : Type 0 where
   pub all : rounds ≡ max_rounds
   pub goes_round : MakesRounds rounds c d
 
--- a crew plays a script and so many rounds: it makes the entries in their order; then all lists are opened; and with none
--- of the rounds that follow the run ends
-pub record Plays (script : List Turned) (rounds : ℕ) (c d : CrewView) : Type 0 where
+-- a crew plays a script: it makes the entries in their order, and then all lists are opened
+pub record Plays (script : List Turned) (c d : CrewView) : Type 0 where
   pub made : CrewView
   pub entries : MakesAll script c made
-  pub opened : CrewView
-  pub opens : AllZip OpensAll made.servers opened.servers
-  pub waits : opened.coordinator ≡ made.coordinator
-  pub goes_round : MakesRounds rounds opened d
+  pub opens : AllZip OpensAll made.servers d.servers
+  pub waits : d.coordinator ≡ made.coordinator
 
--- a crew plays a script and less than the most rounds, and ends with the round that follows
+-- a crew plays a script, and with the rounds that follow the run ends in time
 pub record PlaysToEnd (script : List Turned) (c d : CrewView) : Type 0 where
-  pub rounds : ℕ
-  pub few : rounds < max_rounds
-  pub before : CrewView
-  pub plays : Plays script rounds c before
-  pub ends : FreshRound true before d
+  pub opened : CrewView
+  pub plays : Plays script c opened
+  pub ends : EndsInTime opened d
 
 -- a crew follows a script: it plays it to its end, where its coordinator finds the run ended, and leaves this
 pub record FollowsScript (script : List Turned) (c : CrewView) (o : Outcome) : Type 0 where

@@ -6,7 +6,7 @@ ghost use Rattle.like_limits.specs.Limits.{max_entries};
 ghost use Rattle.like_promises.specs.Workload.{lists_of};
 ghost use Rattle.like_crew.specs.Crew.{AreGone, GoesOn};
 ghost use Rattle.like_promises.specs.Report.{IsReportOf};
-ghost use Rattle.like_run.specs.Rounds.{CanMake, CanReplayScript, IsPlayFault, IsReplayFaultUnderWay, IsReplayFault, ReportFollows};
+ghost use Rattle.like_run.specs.Rounds.{CanMake, CanReplayScript, HasNotEnded, IsReplayFaultUnderWay, IsReplayFault, IsUnfinished, ReportFollows};
 ghost use Rattle.like_run.specs.Script.{EndsInTime, FollowsScript, Makes, MakesAll, MakesMostRounds};
 
 use like_crew::{Outcome, OwnCrew, report_of, sizes_of};
@@ -74,7 +74,7 @@ fn replay_within(
     requires script { All (IsInRun setup.now.workers (length plans.items)) script.now }
     ensures report { IfOk result (IsReportOf setup.now (lists_of plans.items) notes) }
     ensures follows { IfOk result (ReportFollows setup.now (lists_of plans.items) script.now) }
-    ensures fault { IfErr result (IsReplayFaultUnderWay setup.now (lists_of plans.items) script.now) }
+    ensures fault { IfErr result (IsReplayFaultUnderWay (IsUnfinished setup.now (lists_of plans.items) script.now)) }
 {
     let sizes = sizes_of(alloc, &plans)?;
     let terms = Terms {
@@ -92,7 +92,7 @@ fn play(alloc: Global, crew: OwnCrew, script: &[Turned]) -> Result<Outcome, Repl
     requires script { All (CanMake crew.servers) script.now }
     requires all { length crew.servers ≡ crew.coordinator.seat.opening.workers }
     ensures script { IfOk result (FollowsScript script.now crew) }
-    ensures fault { IfErr result (IsPlayFault script.now crew) }
+    ensures fault { IfErr result (IsReplayFaultUnderWay (HasNotEnded script.now crew)) }
 {
     let mut crew = crew;
     make_all(&mut crew, script);

@@ -5,7 +5,7 @@ ghost use Rattle.like_requests.specs.Script.{IsInRun};
 ghost use Rattle.like_roles.specs.coordinator.CoordTurns.{HasEndedJoined};
 ghost use Rattle.like_promises.specs.Workload.{lists_of};
 ghost use Rattle.like_crew.specs.Crew.{AreGone, CrewView, GoesOn};
-ghost use Rattle.like_crew.specs.OwnCrew.{HasOutcome};
+ghost use Rattle.like_crew.specs.Outcome.{HasOutcome};
 ghost use Rattle.like_run.specs.Rounds.{CanMake};
 
 use super::cases::{

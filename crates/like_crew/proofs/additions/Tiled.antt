@@ -1,6 +1,6 @@
 -- The places of the additions of a run that has ended.
-use Rattle.std.proofs.Common.{◌≡◌, ℕ, suc, ◌+◌, ◌<◌, ◌≤◌, ◌&&◌, nat_le, nat_lt, Bool, true, cond, List, [], ◌∷◌, length, map, get_or, slice_get, slice_index, count_by, Some, refl, sym, ap, ◌∙◌, subst, arith, inl, inr}
-use Rattle.std.specs.List.{All, AllZip, sum_by}
+use Rattle.std.proofs.Common.{◌≡◌, ℕ, ◌+◌, ◌<◌, ◌≤◌, ◌&&◌, nat_le, nat_lt, Bool, true, cond, List, [], ◌∷◌, length, map, get_or, slice_get, slice_index, count_by, Some, refl, sym, ap, ◌∙◌, subst, arith, inl, inr}
+use Rattle.std.specs.List.{All, sum_by}
 use Rattle.std.proofs.lemmas.List.Sums.{sum_by-append, sum_by-cons}
 use Rattle.std.proofs.lemmas.Bool.{cases_lt}
 use Rattle.std.proofs.lemmas.List.{get_or_past, length-map}
@@ -34,14 +34,15 @@ use Rattle.like_promises.specs.Workload.{Workload, workload_of}
 use Rattle.like_crew.specs.declared.outcome.Outcome.{Outcome}
 use Rattle.like_promises.specs.EndToEnd.{runs_of}
 use Rattle.like_crew.specs.Outcome.{IsOutcome, IsSeatLike}
-use Rattle.like_crew.specs.Server.{HasWorkedFor, IsLogOf, ServerView}
+use Rattle.like_crew.specs.Server.{IsLogOf, ServerView}
 use Rattle.like_promises.specs.places.Tiling.{all_noted}
 use Rattle.like_crew.proofs.additions.AddedPages.{adds-there, none-liked}
 use Rattle.like_crew.proofs.additions.AddedPhases.{of-likes-same, ran-within}
-use Rattle.like_crew.proofs.lists.Pairs.{pairs-sum}
+use Rattle.like_crew.proofs.lists.Pairs.{pairs-sum, pairs-then}
 use Rattle.like_crew.proofs.lists.Sums.{sum-of-map}
 use Rattle.like_crew.proofs.Hot.{count-before}
-use Rattle.like_crew.proofs.Whole.{HasCounted, HaveMasks, SawNoneLater, all-before, all-likes, at-post, hot_known, initial-at, known, left-at, logs-are, masks-known, posts, right-at-server, served, server-at, z}
+use Rattle.like_crew.proofs.servers.Finishing.{IsLogFor}
+use Rattle.like_crew.proofs.Whole.{HasCounted, HaveMasks, SawNoneLater, all-before, all-likes, at-post, hot_known, initial-at, joined, known, left-at, logs-are, masks-known, posts, right, served, server-at, z}
 
 -- the additions that a log notes
 abbrev additions_noted : WorkerLog → List Addition
@@ -60,8 +61,7 @@ count-all test (log ∷ logs) =
 -- what a log has noted, where its worker notes its additions
 pub record HasNoted (setup : Setup) (plans : List (List Request)) (notes : Bool) (e : Outcome)
     (h : IsOutcome setup plans notes e) (s : ServerView) (log : WorkerLog) : Type 0 where
-  pub of_log : IsLogOf s log
-  pub worked : HasWorkedFor (known setup plans notes e h) s
+  pub right_log : IsLogFor (known setup plans notes e h) s log
   pub additions : (additions_among s.worker.post.did) ≡ additions_noted log
   pub adds : AddsItsLikes (known setup plans notes e h) log.ran.items log.adds.items
   pub calls : calls_of (known setup plans notes e h) log.adds.items log.ran.items ≡ stretches_of s.worker.post.did
@@ -93,17 +93,14 @@ module _ (setup : Setup) (plans : List (List Request)) (notes : Bool) (e : Outco
     (masks : HaveMasks setup plans notes e h) (counted : HasCounted setup plans notes e h)
     (asked : notes ≡ true) where
   -- the log of each worker has
-  noted-by : (worker : ℕ) (s : ServerView) (log : WorkerLog) → slice_get h.servers worker ≡ Some s → IsLogOf s log
+  noted-by : (worker : ℕ) (s : ServerView) (log : WorkerLog) → slice_get h.crew.servers worker ≡ Some s → IsLogOf s log
       → HasNoted setup plans notes e h s log
   noted-by worker s log at of_log =
-      let is = server-at setup plans notes e h worker s at in
-      let worked : HasWorkedFor (known setup plans notes e h) s =
-      (is.works (hot_known setup plans notes e h), right-at-server setup plans notes e h masks worker s at) in
+      let its = right setup plans notes e h masks worker s log at of_log in
       let noted : AreNoted (known setup plans notes e h) s.worker =
-      (of_log.each (known setup plans notes e h) worked).noted (is.notes_are ∙ asked) in
+      its.noted ((server-at setup plans notes e h worker s at).notes_are ∙ asked) in
       record {
-        of_log = of_log;
-        worked = worked;
+        right_log = its;
         additions = noted.additions ∙ ap (map addition_of) (sym of_log.adds);
         adds = subst (λ (ran : List Ran). AddsItsLikes (known setup plans notes e h) ran log.adds.items) (sym of_log.ran)
             (subst (AddsItsLikes (known setup plans notes e h) s.worker.ran) (sym of_log.adds) noted.adds);
@@ -111,9 +108,9 @@ module _ (setup : Setup) (plans : List (List Request)) (notes : Bool) (e : Outco
       }
 
   noted-at : (worker : ℕ) (log : WorkerLog) → slice_get e.logs.items worker ≡ Some log
-      → (s : ServerView) × ((slice_get h.servers worker ≡ Some s) × HasNoted setup plans notes e h s log)
+      → (s : ServerView) × ((slice_get h.crew.servers worker ≡ Some s) × HasNoted setup plans notes e h s log)
   noted-at worker log at =
-      let s = left-at IsLogOf h.servers e.logs.items worker log h.logs at in
+      let s = left-at IsLogOf h.crew.servers e.logs.items worker log h.left.logs at in
       (s.0, (s.1.0, noted-by worker s.0 log s.1.0 s.1.1))
 
   -- of its accepted likes
@@ -125,7 +122,7 @@ module _ (setup : Setup) (plans : List (List Request)) (notes : Bool) (e : Outco
       let is = logs-are setup plans notes e h masks counted phases worker log at in
       of-likes-same (workload_of setup plans) (hot_known setup plans notes e h) (served setup plans notes e h).hot e.phases
       (masks-known setup plans notes e h masks counted) log.ran.items log.adds.items
-      (ran-within (served setup plans notes e h) log.taken.items e.phases h.joined is.1 log.ran.items is.0.ran)
+      (ran-within (served setup plans notes e h) log.taken.items e.phases (joined setup plans notes e h) is.1 log.ran.items is.0.ran)
       (noted-at worker log at).1.1.adds
 
   -- to pages that are there
@@ -135,53 +132,39 @@ module _ (setup : Setup) (plans : List (List Request)) (notes : Bool) (e : Outco
       let log : WorkerLog = get_or e.logs.items worker d in
       let n = noted-at worker log (slice_get-get_or e.logs.items worker d within) in
       adds-there (known setup plans notes e h) there (additions_among n.0.worker.post.did) log.adds.items log.ran.items
-      n.1.1.additions
-      (n.1.1.of_log.each (known setup plans notes e h) n.1.1.worked).likes n.1.1.adds.each
+      n.1.1.additions n.1.1.right_log.likes n.1.1.adds.each
 
   -- as many of the logs' additions pass a test as of the seats'
   passing-same : (test : Addition → Bool)
       → posts_passing (posts setup plans notes e h) test ≡ count_by test (all_noted e.logs.items)
   passing-same test =
-      sum-of-map (λ (p : WorkerSeatView). count_by test (additions_among p.did)) seat_view h.seats
+      sum-of-map (λ (p : WorkerSeatView). count_by test (additions_among p.did)) seat_view h.left.seats
       ∙ sym (pairs-sum IsSeatLike (λ (s : ServerView). count_by test (additions_among s.worker.post.did))
-      (λ (seat : WorkerSeat). count_by test (additions_among (seat_view seat).did)) h.servers h.seats
-      (λ s seat m. ap (λ (p : WorkerSeatView). count_by test (additions_among p.did)) (sym m)) h.seats_are)
+      (λ (seat : WorkerSeat). count_by test (additions_among (seat_view seat).did)) h.crew.servers h.left.seats
+      (λ s seat m. ap (λ (p : WorkerSeatView). count_by test (additions_among p.did)) (sym m)) h.left.seats_are)
       ∙ pairs-sum (λ (s : ServerView) (log : WorkerLog). (additions_among s.worker.post.did) ≡ additions_noted log)
       (λ (s : ServerView). count_by test (additions_among s.worker.post.did))
-      (λ (log : WorkerLog). count_by test (additions_noted log)) h.servers e.logs.items
-      (λ s log m. ap (count_by test) m) matched
+      (λ (log : WorkerLog). count_by test (additions_noted log)) h.crew.servers e.logs.items
+      (λ s log m. ap (count_by test) m)
+      (pairs-then IsLogOf (λ (s : ServerView) (log : WorkerLog). (additions_among s.worker.post.did) ≡ additions_noted log)
+      h.crew.servers e.logs.items (λ i s log at of_log. (noted-by i s log at of_log).additions) h.left.logs)
       ∙ count-all test e.logs.items
-    where
-      matches : (ss : List ServerView) (logs : List WorkerLog)
-          → ((i : ℕ) (s : ServerView) (log : WorkerLog) → slice_get ss i ≡ Some s → IsLogOf s log
-          → additions_among s.worker.post.did ≡ additions_noted log)
-          → AllZip IsLogOf ss logs
-          → AllZip (λ (s : ServerView) (log : WorkerLog). (additions_among s.worker.post.did) ≡ additions_noted log) ss logs
-      matches [] [] each all = tt
-      matches [] (log ∷ logs) each all = absurd all
-      matches (s ∷ ss) [] each all = absurd all
-      matches (s ∷ ss) (log ∷ logs) each all =
-          (each 0 s log refl all.0, matches ss logs (λ i t l at of_log. each (suc i) t l at of_log) all.1)
-
-      matched : AllZip
-          (λ (s : ServerView) (log : WorkerLog). (additions_among s.worker.post.did) ≡ additions_noted log) h.servers e.logs.items
-      matched = matches h.servers e.logs.items (λ i s log at of_log. (noted-by i s log at of_log).additions) h.logs
 
   -- each page's count at the start
-  first-same : (page : ℕ) → get_or h.coord.opening.counts page 0 ≡ initial_count setup.pages page
+  first-same : (page : ℕ) → get_or h.crew.coordinator.seat.opening.counts page 0 ≡ initial_count setup.pages page
   first-same page =
-      ap (λ (x : Opening). get_or x.counts page 0) h.opening ∙ initial-at (known setup plans notes e h) page
+      ap (λ (x : Opening). get_or x.counts page 0) h.is_crew.opening ∙ initial-at (known setup plans notes e h) page
 
   module _ (there : All (AreThere setup.pages) plans) (counts : List ℕ) (sized : length counts ≡ length setup.pages)
       (told : (page : ℕ) → page < length setup.pages
-      → get_or counts page 0 ≡ count_with h.coord h.seats page) where
+      → get_or counts page 0 ≡ count_with h.crew.coordinator.seat h.left.seats page) where
     -- and its last one
-    last-same : (page : ℕ) → count_with h.coord h.seats page ≡ get_or counts page 0
+    last-same : (page : ℕ) → count_with h.crew.coordinator.seat h.left.seats page ≡ get_or counts page 0
     last-same page = elim (cases_lt page (length setup.pages)) [
       | inl within ↦ sym (told page within)
       | inr past ↦
           let none = get_or_past counts page 0 (omega arith) in
-          let start = ap (λ (x : Opening). get_or x.counts page 0) h.opening
+          let start = ap (λ (x : Opening). get_or x.counts page 0) h.is_crew.opening
           ∙ get_or_past (z setup plans notes e h).counts page 0
           (omega (arith, length-map setup.pages (λ (p : Page). p.count))) in
           let added = all-likes setup plans notes e h masks page
@@ -190,30 +173,30 @@ module _ (setup : Setup) (plans : List (List Request)) (notes : Bool) (e : Outco
     ]
 
     -- each number of a page is in the stretch of one addition
-    pub tiles-are : HavePlaces (slice_index h.coord.opening.counts) (posts setup plans notes e h)
+    pub tiles-are : HavePlaces (slice_index h.crew.coordinator.seat.opening.counts) (posts setup plans notes e h)
         → (page n : ℕ)
         → count_by (covers page n) (all_noted e.logs.items)
         ≡ cond (nat_le (initial_count setup.pages page) n && nat_lt n (get_or counts page 0)) 1 0
     tiles-are places page n =
-        let first : (λ page. get_or h.coord.opening.counts page 0) ≡ initial_count setup.pages =
+        let first : (λ page. get_or h.crew.coordinator.seat.opening.counts page 0) ≡ initial_count setup.pages =
         λ i page. first-same page i in
-        let last : count_with h.coord h.seats ≡ (λ page. get_or counts page 0) =
+        let last : count_with h.crew.coordinator.seat h.left.seats ≡ (λ page. get_or counts page 0) =
         λ i page. last-same page i in
         sym (passing-same (covers page n))
         ∙ (subst (λ (f : ℕ → ℕ). AreTiles (initial_count setup.pages) f
         (posts_passing (posts setup plans notes e h))) last
-        (subst (λ (f : ℕ → ℕ). AreTiles f (count_with h.coord h.seats)
+        (subst (λ (f : ℕ → ℕ). AreTiles f (count_with h.crew.coordinator.seat h.left.seats)
         (posts_passing (posts setup plans notes e h))) first places.tiles)).tiled page n
 
   -- the calls of each worker are placed
-  pub placed-are : HavePlaces (slice_index h.coord.opening.counts) (posts setup plans notes e h)
+  pub placed-are : HavePlaces (slice_index h.crew.coordinator.seat.opening.counts) (posts setup plans notes e h)
       → All (λ log. ArePlaced (initial_count setup.pages) (λ test. count_by test (all_noted e.logs.items))
       (calls_of (served setup plans notes e h) log.adds.items log.ran.items)) e.logs.items
   placed-are places worker d within =
       let log : WorkerLog = get_or e.logs.items worker d in
       let n = noted-at worker log (slice_get-get_or e.logs.items worker d within) in
       let all : Counting = posts_passing (posts setup plans notes e h) in
-      let counts : ℕ → ℕ = λ page. get_or h.coord.opening.counts page 0 in
+      let counts : ℕ → ℕ = λ page. get_or h.crew.coordinator.seat.opening.counts page 0 in
       let post : ArePlaced counts all (stretches_of n.0.worker.post.did) =
       at-post setup plans notes e h (λ p. ArePlaced counts all (stretches_of p.did)) places.each worker n.0 n.1.0 in
       let first : counts ≡ initial_count setup.pages = λ i page. first-same page i in
@@ -224,16 +207,16 @@ module _ (setup : Setup) (plans : List (List Request)) (notes : Bool) (e : Outco
       (subst (ArePlaced counts all) (sym n.1.1.calls) post))
 
   -- and lie in the order of phases
-  pub stand-are : All (HaveBetween h.coord.opening.counts (posts_before (posts setup plans notes e h))
-      h.coord.phase) (posts setup plans notes e h)
+  pub stand-are : All (HaveBetween h.crew.coordinator.seat.opening.counts (posts_before (posts setup plans notes e h))
+      h.crew.coordinator.seat.phase) (posts setup plans notes e h)
       → All (λ log. All
       (IsInTime (served setup plans notes e h) (entries_in e.logs.items))
       (calls_of (served setup plans notes e h) log.adds.items log.ran.items)) e.logs.items
   stand-are stand worker d within =
       let log : WorkerLog = get_or e.logs.items worker d in
       let n = noted-at worker log (slice_get-get_or e.logs.items worker d within) in
-      let counts : List ℕ = h.coord.opening.counts in
-      let last : ℕ = h.coord.phase in
+      let counts : List ℕ = h.crew.coordinator.seat.opening.counts in
+      let last : ℕ = h.crew.coordinator.seat.phase in
       let before : ℕ → ℕ → ℕ = posts_before (posts setup plans notes e h) in
       let post : HaveBetween counts before last n.0.worker.post =
       at-post setup plans notes e h (HaveBetween counts before last) stand worker n.0 n.1.0 in

@@ -33,15 +33,15 @@ pairs-both R Q P (x ∷ xs) [] zs f a b = absurd a
 pairs-both R Q P (x ∷ xs) (y ∷ ys) [] f a b = absurd b
 pairs-both R Q P (x ∷ xs) (y ∷ ys) (z ∷ zs) f a b = (f x y z a.0 b.0, pairs-both R Q P xs ys zs f a.1 b.1)
 
--- a match that is weaker
-pub pairs-weaker : {A B : Type 0} (R Q : A → B → Type 0) (xs : List A) (ys : List B)
-    → ((x : A) (y : B) → R x y → Q x y)
+-- a match that follows at each place
+pub pairs-then : {A B : Type 0} (R Q : A → B → Type 0) (xs : List A) (ys : List B)
+    → ((k : ℕ) (x : A) (y : B) → slice_get xs k ≡ Some x → R x y → Q x y)
     → AllZip R xs ys
     → AllZip Q xs ys
-pairs-weaker R Q [] [] f h = tt
-pairs-weaker R Q [] (y ∷ ys) f h = absurd h
-pairs-weaker R Q (x ∷ xs) [] f h = absurd h
-pairs-weaker R Q (x ∷ xs) (y ∷ ys) f h = (f x y h.0, pairs-weaker R Q xs ys f h.1)
+pairs-then R Q [] [] f h = tt
+pairs-then R Q [] (y ∷ ys) f h = absurd h
+pairs-then R Q (x ∷ xs) [] f h = absurd h
+pairs-then R Q (x ∷ xs) (y ∷ ys) f h = (f zero x y refl h.0, pairs-then R Q xs ys (λ k. f (suc k)) h.1)
 
 -- what matches the numbers from a on stands at its number
 pub pairs-at : {B : Type 0} (R : ℕ → B → Type 0) (a n : ℕ) (ys : List B) (k : ℕ) (y : B)

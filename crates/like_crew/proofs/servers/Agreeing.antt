@@ -24,12 +24,12 @@ use Rattle.like_roles.specs.worker.Turns.{CanGive, Gives, HasTaken, IsNext, Pend
 use Rattle.like_requests.specs.Setup.{IsThere}
 use Rattle.like_roles.specs.worker.WorkerView.{WorkerView, phase_at, submitter_at}
 use Rattle.like_crew.specs.Server.{numbers_taken}
-use Rattle.like_crew.specs.Server.{Agree, AgreesAt, AreOwnPlans, IsRising, ReadMasksOf, ServerView, WorksFor, numbers_given, plans_of, requests_taken}
+use Rattle.like_crew.specs.Server.{Agree, AgreesAt, AreOwnPlans, ReadMasksOf, ServerView, WorksFor, numbers_given, plans_of, requests_taken}
 use Rattle.like_crew.proofs.lists.Stepped.{slice_get-set_other, slice_get-set_same}
 use Rattle.like_crew.proofs.servers.Numbers.{count-taken, given-own, numbers-next, numbers-same}
 use Rattle.like_crew.proofs.servers.Shares.{plan-at}
 use Rattle.like_crew.proofs.servers.Unnoted.{gives-adds, turns-adds}
-use Rattle.like_crew.proofs.servers.Sights.{HasSeen, IsTrying, gives-seen, taken-rising, turns-seen}
+use Rattle.like_crew.proofs.servers.Sights.{HasSeen, IsRising, IsTrying, gives-seen, taken-rising, turns-seen}
 
 -- a turn that takes nothing
 pub agree-turn : (v w : WorkerView) (inboxes : List InboxView) (answer : Turn)

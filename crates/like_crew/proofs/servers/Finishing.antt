@@ -10,19 +10,24 @@ use Rattle.like_requests.specs.Setup.{IsPlan, IsThere}
 use Rattle.like_requests.specs.declared.request.Request.{Request}
 use Rattle.like_requests.specs.declared.setup.Setup.{Setup}
 use Rattle.like_core.specs.declared.view.WorkerSeatView.{WorkerSeatView}
+use Rattle.like_core.specs.PageSteps.{earliest_first}
+use Rattle.like_core.specs.Post.{additions_in, additions_of}
 use Rattle.like_tables.specs.UserTable.{UserTable}
 use Rattle.like_tables.specs.Share.{share_of, Share, place_of, serves}
+use Rattle.like_promises.specs.declared.log.Ran.{Ran}
 use Rattle.like_promises.specs.declared.log.Took.{Took}
+use Rattle.like_promises.specs.Likes.{likes_among, likes_within}
+use Rattle.like_serial.specs.StepsTold.{plain_told, steps_ran}
 use Rattle.like_roles.specs.declared.terms.Terms.{Terms}
 use Rattle.like_roles.specs.worker.New.{IsNew, IsPostOf}
 use Rattle.like_queue.specs.Inbox.{InboxView}
 use Rattle.like_promises.specs.declared.log.WorkerLog.{WorkerLog}
-use Rattle.like_roles.specs.worker.Follows.{IsDone}
+use Rattle.like_roles.specs.worker.Follows.{AreNoted, IsDone}
 use Rattle.like_promises.specs.Workload.{Workload}
 use Rattle.like_roles.specs.worker.WorkerView.{WorkerView, phase_at}
 use Rattle.like_promises.specs.Log.{IsLog, TakesPlans}
 use Rattle.like_crew.specs.Server.{numbers_taken}
-use Rattle.like_crew.specs.Server.{NoneAbove, Agree, AreInboxesFor, WorksFor, ServerView, plans_of, requests_taken}
+use Rattle.like_crew.specs.Server.{NoneAbove, Agree, AreInboxesFor, IsLogOf, ReadMasksOf, WorksFor, ServerView, plans_of, requests_taken}
 use Rattle.like_crew.proofs.servers.Shares.{plan-at}
 use Rattle.like_crew.proofs.servers.Numbers.{own-place}
 use Rattle.like_crew.proofs.Counted.{plan_of}
@@ -59,7 +64,7 @@ whole-plan workload s submitter a h done mine =
           let all : requests_taken i ≡ length i.plan = omega (arith, over) in
           all ∙ ap (λ (xs : List Request). length xs) (sym (get_or_from_slice_get workload.plans submitter i.plan [] p))
 
-takes-plans : (workload : Workload) (s : ServerView)
+pub takes-plans : (workload : Workload) (s : ServerView)
     → Agree s.worker s.inboxes
     → WorksFor workload s
     → IsDone workload s.worker
@@ -74,23 +79,39 @@ takes-plans workload s a h done submitter =
           ∙ sym (ap (λ b. cond b (range_with_len 1 (length (plan_of workload submitter))) []) other)
     ]
 
--- the log
-pub log-is : (workload : Workload) (s : ServerView) (log : WorkerLog)
-    → Agree s.worker s.inboxes
+-- a server's log is right for a workload: it is a log of the workload; its likes are the additions of the server's post,
+-- in all and phase by phase; the plain steps of its entries are the post's; and the additions are noted if they are to be
+pub record IsLogFor (workload : Workload) (s : ServerView) (log : WorkerLog) : Type 0 where
+  pub is_log : IsLog workload s.worker.last.share.workers s.worker.last.share.worker log
+  pub likes : (page : ℕ) → likes_among workload page log.ran.items ≡ additions_of s.worker.post page
+  pub by_phase : (phase page : ℕ)
+      → likes_within workload page log.ran.items phase ≡ additions_in s.worker.post phase page
+  pub steps : plain_told workload (earliest_first s.worker.post.did) ≡ steps_ran workload log.ran.items
+  pub noted : s.worker.notes ≡ true → AreNoted workload s.worker
+
+pub log-for : (workload : Workload) (s : ServerView) (log : WorkerLog)
     → WorksFor workload s
-    → IsDone workload s.worker
-    → log.taken.items ≡ s.worker.taken
-    → log.ran.items ≡ s.worker.ran
-    → log.last ≡ s.worker.last
-    → IsLog workload s.worker.last.share.workers s.worker.last.share.worker log
-log-is workload s log a h done taken ran last = record {
-  taken = rw taken (takes-plans workload s a h done);
-  rising = rw taken a.rising;
-  ran = rw (taken, ran) done.in_order;
-  stashed = rw taken done.fits;
-  answers = rw ran done.replies;
-  last = rw (ran, last) done.last;
-}
+    → ReadMasksOf workload s
+    → IsLogOf s log
+    → IsLogFor workload s log
+log-for workload s log works masks of_log =
+    let did = of_log.each workload works masks in
+    let done = did.1 in
+    record {
+      is_log = record {
+        taken = rw of_log.taken did.0;
+        rising = of_log.rising;
+        ran = rw (of_log.taken, of_log.ran) done.in_order;
+        stashed = rw of_log.taken done.fits;
+        answers = rw of_log.ran done.replies;
+        last = rw (of_log.ran, of_log.last) done.last;
+      };
+      likes = λ page. ap (likes_among workload page) of_log.ran ∙ done.likes page;
+      by_phase = λ phase page.
+          ap (λ (ran : List Ran). likes_within workload page ran phase) of_log.ran ∙ done.by_phase phase page;
+      steps = done.steps ∙ ap (steps_ran workload) (sym of_log.ran);
+      noted = done.noted;
+    }
 
 -- an untouched inbox has handed over nothing
 nothing-given : (s : Setup) (inboxes : List InboxView)

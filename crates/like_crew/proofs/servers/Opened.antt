@@ -105,9 +105,13 @@ pub opens-all : (board : List ℕ) (w : WorkerView) (first lists : List Inbox) (
     → OpensAll (server board w first) (server board w lists)
 opens-all board w first lists n sized below = record {
   all = λ place inbox at.
-      let it = mapped-at view_of lists place inbox (ap (λ xs. slice_get xs place) below.same ∙ at) in
+      let it = mapped-at view_of lists place inbox at in
       let in_range : place < length first =
-      omega (arith, slice_get_within (map view_of first) place inbox at, length-map first view_of) in
+      omega (
+        arith,
+        slice_get_within (map view_of first) place inbox (ap (λ xs. slice_get xs place) (sym below.same) ∙ at),
+        length-map first view_of,
+      ) in
       slice_get-map opened_of lists place ∙ ap (option_map opened_of) it.1.0
       ∙ ap Some (below.opened place it.0 (omega (arith, in_range, sized)) it.1.0
       ∙ ap (λ (v : InboxView). item_count v.plan) it.1.1);

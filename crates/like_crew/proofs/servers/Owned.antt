@@ -1,23 +1,16 @@
 -- A server at a board that its thread owns: the board comes back, and its look is fresh.
-use Rattle.std.proofs.Common.{◌≡◌, ℕ, List, [], ◌∷◌, length, set, drop, drop_at, refl, sym, ap, subst, ◌∙◌, arith}
+use Rattle.std.proofs.Common.{◌≡◌, ℕ, [], ◌∷◌, length, drop, drop_at, refl, sym, ap, subst, ◌∙◌, arith}
 use Rattle.std.specs.Option.{IsSomeAnd}
 use Rattle.std.specs.List.{All}
 use mathlib.Core.Option.{Option, some}
-use lib.ListN.{get_elem?}
 use Rattle.like_core.specs.declared.view.CoordSeatView.{CoordSeatView}
 use Rattle.like_core.specs.declared.view.Look.{Look}
 use Rattle.like_core.specs.declared.view.View.{View}
-use Rattle.like_core.specs.declared.view.View.TheVariants.{Coord, Worker}
-use Rattle.like_core.specs.declared.view.WorkerSeatView.{WorkerSeatView}
+use Rattle.like_core.specs.declared.view.View.TheVariants.{Coord}
 use Rattle.like_core.specs.PageSteps.{look_after}
-use Rattle.like_board.specs.declared.own_board.OwnBoard.{OwnBoard}
-use Rattle.like_board.specs.declared.own_board.worker_seat.OwnWorkerSeat.{OwnWorkerSeat}
-use Rattle.like_board.specs.Lending.{CameBack}
 use Rattle.like_board.specs.Lent.{HasLooked, ShowsBy}
-use Rattle.like_board.specs.Own.{own_place, own_view}
 use Rattle.like_roles.specs.declared.turn.Turn.{Turn}
 use Rattle.like_crew.specs.Fresh.{LooksFresh}
-use Rattle.like_crew.specs.OwnServer.{CameBackFrom, OwnServerView}
 use Rattle.like_crew.specs.Server.{ServerView}
 use Rattle.like_crew.specs.ServerTurns.{ServerTurns}
 use Rattle.like_crew.proofs.servers.Posts.{server-looks}
@@ -47,14 +40,3 @@ lent-fresh answer first c s t looked is turn here =
 pub given-back : {A : Type 0} {n m : ℕ} {y : A} (P : A → Type 0) (given : (x : A) × (n ≡ m → x ≡ y)) → n ≡ m → P y
     → P given.0
 given-back P given same h = subst P (sym (given.1 same)) h
-
-pub came-back : (views : List View) (s t : OwnServerView) (board : OwnBoard) (seat : OwnWorkerSeat)
-    → CameBack views s.place s.server.worker.post board seat
-    → t.place ≡ own_place seat
-    → t.server.worker.post ≡ own_view seat
-    → CameBackFrom views s board t
-came-back views s t board seat came place post = record {
-  place_is = place ∙ came.place_is;
-  views_are = came.views_are ∙ ap (λ (v : WorkerSeatView). set views s.place (Worker v)) (sym post);
-  looked = subst (HasLooked (get_elem? views 0) s.server.worker.post) (sym post) came.looked;
-}

@@ -1,10 +1,10 @@
 -- Servers whose seats are at a board that their thread owns.
-use Rattle.std.proofs.Common.{◌≡◌, ℕ, zero, suc, ◌+◌, List, [], ◌∷◌, get_or, map, option_map, set, slice_get, Some, refl, sym, ap, subst, ◌∙◌, add-one, inl, inr}
+use Rattle.std.proofs.Common.{◌≡◌, ℕ, zero, suc, ◌+◌, ◌<◌, List, [], ◌∷◌, get_or, length, map, option_map, set, slice_get, Some, refl, sym, ap, subst, ◌∙◌, add-one, inl, inr, arith}
 use Rattle.std.specs.List.{All, AllZip}
 use Rattle.std.proofs.lemmas.Bool.{cases_eq}
 use Rattle.std.proofs.Math.Seq.{map-set_same}
-use Rattle.std.proofs.lemmas.List.{map-set}
-use Rattle.std.proofs.lemmas.Option.{get_or_from_slice_get, same_Some, slice_get-get_or, slice_get-map, slice_get_within}
+use Rattle.std.proofs.lemmas.List.{length-map, map-set}
+use Rattle.std.proofs.lemmas.Option.{get_or_from_slice_get, same_Some, slice_get-get_or, slice_get-map, slice_get_read, slice_get_within}
 use mathlib.Core.Option.{some, some-injective, some-ne-none}
 use lib.ListN.{get_elem?}
 use Rattle.like_core.specs.declared.sight.CoordSight.{CoordSight}
@@ -50,6 +50,16 @@ pub server-at : (owned : List OwnServerView) (k : ℕ) (s : OwnServerView)
     → slice_get owned k ≡ Some s
     → slice_get (servers_of owned) k ≡ Some s.server
 server-at owned k s at = slice_get-map server_of owned k ∙ ap (option_map server_of) at
+
+-- the server that is read at a place of a crew stands there
+pub stands-at : (owned : List OwnServerView) (servers : List ServerView) (k : ℕ) (s : OwnServerView)
+    → servers_of owned ≡ servers
+    → k < length servers
+    → s ≡ get_or owned k s
+    → slice_get owned k ≡ Some s
+stands-at owned servers k s same below is =
+    slice_get_read owned (length owned) k s refl
+    (omega (arith, below, ap (λ (xs : List ServerView). length xs) same, length-map owned server_of)) is
 
 module _ (views : List View) (c : CoordSeatView) (owned : List OwnServerView) (h : AreSeated views c owned) where
   -- the board knows a server's seat

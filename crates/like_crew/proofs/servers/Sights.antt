@@ -24,7 +24,7 @@ use Rattle.like_roles.specs.worker.Turns.{Gives, TakesAsk, Turns, Works, merged,
 use Rattle.like_roles.specs.worker.WorkerView.{WorkerView, phase_at, submitter_at}
 use Rattle.like_roles.proofs.Served.{GivesReply-keeps, counted_by}
 use Rattle.like_roles.proofs.Effects.{Runs-effects}
-use Rattle.like_crew.specs.Server.{IsRising, NoneAbove}
+use Rattle.like_crew.specs.Server.{NoneAbove}
 
 -- nothing was taken above the phase that was seen last, and that is the one that the worker runs or has answered
 abbrev pub Seen : WorkerState → Option Sight → List Took → Type 0
@@ -209,6 +209,10 @@ taken-seen v place ask t h =
           (All-push (λ (x : Took). x.phase ≤ t.sight.number) v.taken u all (omega (arith, now))),
       h.1,
     )
+
+-- the phases of taking never fall
+abbrev pub IsRising : List Took → Type 0
+IsRising taken = AllPairs (λ s t. s.phase ≤ t.phase) taken
 
 pub taken-rising : (v : WorkerView) (place : ℕ) (ask : Numbered)
     → IsTrying v

@@ -6,6 +6,7 @@ use Rattle.std.proofs.lemmas.List.Elements.{All-cons}
 use Rattle.std.proofs.lemmas.Option.{same_Some, slice_get_within}
 use Rattle.like_requests.specs.declared.request.Taken.{Taken}
 use Rattle.like_core.specs.declared.sight.Sight.{Sight}
+use Rattle.like_core.specs.declared.view.CoordSeatView.{CoordSeatView}
 use Rattle.like_core.specs.declared.worker_state.WorkerState.{WorkerState}
 use Rattle.like_core.specs.declared.worker_state.WorkerState.TheVariants as state
 use Rattle.like_core.specs.Phase.{IsJoined, IsSplit}
@@ -18,11 +19,12 @@ use Rattle.like_roles.specs.worker.Turns.{Gives, Turns, Works, held_from, saw, s
 use Rattle.like_roles.specs.worker.WorkerView.{WorkerView}
 use Rattle.like_roles.proofs.Effects.{Runs-effects}
 use Rattle.like_ending.specs.FreshTurns.{FreshTurns}
-use Rattle.like_crew.specs.Fresh.{AllOpen, LooksFresh}
+use Rattle.like_crew.specs.Fresh.{AllOpen}
 use Rattle.like_crew.specs.Progress.{progress_of}
 use Rattle.like_crew.specs.Server.{ServerView}
 use Rattle.like_crew.specs.ServerTurns as server
-use Rattle.like_crew.specs.ServerTurns.{MakesTurn, OpensAll, OpensOne, ServerTurns, place_at}
+use Rattle.like_crew.specs.ServerTurns.{OpensAll, OpensOne, ServerTurns, place_at}
+use Rattle.like_crew.specs.Steps.{MakesFreshTurn}
 use Rattle.like_crew.proofs.lists.Stepped.{slice_get-set_other, slice_get-set_same}
 use Rattle.like_crew.proofs.servers.Agreeing.{plan-taken}
 use Rattle.like_crew.proofs.servers.Sights.{running_here}
@@ -124,10 +126,7 @@ pub opened-one : (submitter : ℕ) (s t : ServerView) → OpensOne submitter s t
 opened-one submitter s t o = ap progress_of o.more
 
 pub opened-all : (s t : ServerView) → OpensAll s t → (progress_of t ≡ progress_of s) × AllOpen t
-opened-all s t o = (
-  ap progress_of o.rest,
-  λ place inbox at. o.all place inbox (sym (ap (λ (x : ServerView). slice_get x.inboxes place) o.rest) ∙ at),
-)
+opened-all s t o = (ap progress_of o.rest, o.all)
 
 -- all of them
 pub all-opened : (ss ts : List ServerView)
@@ -141,36 +140,38 @@ all-opened (s ∷ ss) (t ∷ ts) all =
     let others = all-opened ss ts all.1 in
     (λ m. first.0 m ∷ others.0 m, All-cons AllOpen t ts first.1 others.1)
 
-pub all-stay-open : (ss ts : List ServerView) → All AllOpen ss → AllZip MakesTurn ss ts → All AllOpen ts
-all-stay-open [] [] open_all turns = λ k d there. absurd (omega (arith, there))
-all-stay-open [] (t ∷ ts) open_all turns = absurd turns
-all-stay-open (s ∷ ss) [] open_all turns = absurd turns
-all-stay-open (s ∷ ss) (t ∷ ts) open_all turns =
-    All-cons AllOpen t ts (stays-open turns.0.0 s t (open_all 0 s (omega arith)) turns.0.1.whole)
-    (all-stay-open ss ts (λ k d there. open_all (suc k) d (omega (arith, there))) turns.1)
-
-pub all-stay-gone : (ss ts : List ServerView)
-    → All (λ s. s.worker.post.state ≡ state.Gone) ss
-    → AllZip MakesTurn ss ts
-    → All (λ s. s.worker.post.state ≡ state.Gone) ts
-all-stay-gone [] [] gone turns = λ k d there. absurd (omega (arith, there))
-all-stay-gone [] (t ∷ ts) gone turns = absurd turns
-all-stay-gone (s ∷ ss) [] gone turns = absurd turns
-all-stay-gone (s ∷ ss) (t ∷ ts) gone turns =
-    All-cons (λ (x : ServerView). x.worker.post.state ≡ state.Gone) t ts
-    (stays-gone turns.0.0 s t (gone 0 s (omega arith)) turns.0.1.whole)
-    (all-stay-gone ss ts (λ k d there. gone (suc k) d (omega (arith, there))) turns.1)
-
--- the turns of a round, with all lists open, are the model's where their looks are fresh
-pub all-modelled : (phase : ℕ) (ending : Bool) (ss ts : List ServerView)
+pub all-stay-open : (c : CoordSeatView) (ss ts : List ServerView)
     → All AllOpen ss
-    → AllZip (LooksFresh phase ending) ss ts
-    → AllZip MakesTurn ss ts
-    → AllZip (FreshTurns true phase ending) (map progress_of ss) (map progress_of ts)
-all-modelled phase ending [] [] open_all looks turns = tt
-all-modelled phase ending [] (t ∷ ts) open_all looks turns = absurd turns
-all-modelled phase ending (s ∷ ss) [] open_all looks turns = absurd turns
-all-modelled phase ending (s ∷ ss) (t ∷ ts) open_all looks turns = (
-  turns.0.1.modelled true phase ending (λ _. open_all 0 s (omega arith)) looks.0,
-  all-modelled phase ending ss ts (λ k d there. open_all (suc k) d (omega (arith, there))) looks.1 turns.1,
+    → AllZip (MakesFreshTurn c) ss ts
+    → All AllOpen ts
+all-stay-open c [] [] open_all turns = λ k d there. absurd (omega (arith, there))
+all-stay-open c [] (t ∷ ts) open_all turns = absurd turns
+all-stay-open c (s ∷ ss) [] open_all turns = absurd turns
+all-stay-open c (s ∷ ss) (t ∷ ts) open_all turns =
+    All-cons AllOpen t ts (stays-open turns.0.0 s t (open_all 0 s (omega arith)) turns.0.1.turn.whole)
+    (all-stay-open c ss ts (λ k d there. open_all (suc k) d (omega (arith, there))) turns.1)
+
+pub all-stay-gone : (c : CoordSeatView) (ss ts : List ServerView)
+    → All (λ s. s.worker.post.state ≡ state.Gone) ss
+    → AllZip (MakesFreshTurn c) ss ts
+    → All (λ s. s.worker.post.state ≡ state.Gone) ts
+all-stay-gone c [] [] gone turns = λ k d there. absurd (omega (arith, there))
+all-stay-gone c [] (t ∷ ts) gone turns = absurd turns
+all-stay-gone c (s ∷ ss) [] gone turns = absurd turns
+all-stay-gone c (s ∷ ss) (t ∷ ts) gone turns =
+    All-cons (λ (x : ServerView). x.worker.post.state ≡ state.Gone) t ts
+    (stays-gone turns.0.0 s t (gone 0 s (omega arith)) turns.0.1.turn.whole)
+    (all-stay-gone c ss ts (λ k d there. gone (suc k) d (omega (arith, there))) turns.1)
+
+-- the turns of a round, with all lists open, are the model's
+pub all-modelled : (c : CoordSeatView) (ss ts : List ServerView)
+    → All AllOpen ss
+    → AllZip (MakesFreshTurn c) ss ts
+    → AllZip (FreshTurns true c.phase c.ending) (map progress_of ss) (map progress_of ts)
+all-modelled c [] [] open_all turns = tt
+all-modelled c [] (t ∷ ts) open_all turns = absurd turns
+all-modelled c (s ∷ ss) [] open_all turns = absurd turns
+all-modelled c (s ∷ ss) (t ∷ ts) open_all turns = (
+  turns.0.1.turn.modelled true c.phase c.ending (λ _. open_all 0 s (omega arith)) turns.0.1.fresh,
+  all-modelled c ss ts (λ k d there. open_all (suc k) d (omega (arith, there))) turns.1,
 )

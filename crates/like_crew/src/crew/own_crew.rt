@@ -4,11 +4,13 @@ ghost use Rattle.like_core.specs.declared.worker_state.WorkerState.TheVariants.{
 ghost use Rattle.like_requests.specs.Setup.{FitsRun};
 ghost use Rattle.like_promises.specs.Workload.{lists_of};
 ghost use Rattle.like_roles.specs.coordinator.CoordTurns.{HasEndedJoined};
+ghost use Rattle.like_roles.specs.declared.coord_turn.CoordTurn.{CoordTurn as Answer};
+ghost use Rattle.like_roles.specs.declared.coord_turn.CoordTurn.TheVariants.{Ended};
 ghost use Rattle.like_crew.specs.Crew.{AreGone, GoesOn, HasInbox, IsCrewAt, IsNewCrew};
-ghost use Rattle.like_crew.specs.OwnCrew.{HasOutcome};
+ghost use Rattle.like_crew.specs.Outcome.{HasOutcome};
 ghost use Rattle.like_crew.specs.Server.{ServerView};
 ghost use Rattle.like_crew.specs.ServerTurns.{OpensAll, OpensOne, place_at};
-ghost use Rattle.like_crew.specs.Steps.{AtServer, FreshRound, IsFreshTurn, LeadsFresh, LeadsToEnd, MakesFreshTurn, OpensMore};
+ghost use Rattle.like_crew.specs.Steps.{AtServer, FreshRound, IsFreshTurn, LeadsFresh, MakesFreshTurn, OpensMore};
 
 use crate::crew::list_inboxes;
 use crate::crew::own_servers::{finish_own, own_servers};
@@ -160,7 +162,7 @@ impl OwnCrew {
 
     // Makes one turn of the coordinator, and says whether it found the run ended.
     fn ends(&mut self) -> bool
-        ensures leads { LeadsToEnd result self.old self.new }
+        ensures leads { (answer : Answer) × (LeadsFresh answer self.old self.new × ((result ≡ true) ↔ (answer ≡ Ended))) }
         ensures goes_on { GoesOn self.old self.new }
         ensures ended { result ≡ true → HasEndedJoined self.new.coordinator }
     {

@@ -4,9 +4,8 @@ ghost use Rattle.like_limits.specs.Limits.{max_workers};
 ghost use Rattle.like_collection.specs.declared.collect_fault.CollectFault.TheVariants.{Memory};
 ghost use Rattle.like_promises.specs.places.Places.{ArePlaces, lists_in};
 ghost use Rattle.like_promises.specs.declared.log.WorkerLog.{WorkerLog as Log};
-ghost use Rattle.like_tables.specs.Share.{worker_of};
+ghost use Rattle.like_tables.specs.Share.{share_of, worker_of};
 ghost use Rattle.like_tables.specs.UserTable.{last_of};
-ghost use Rattle.like_crew.specs.Gathered.{AreTables};
 
 use like_collection::{CollectFault, places};
 use like_promises::{Place, Replies, WorkerLog};
@@ -33,7 +32,8 @@ pub fn last_likes(
 ) -> Result<Vec<Option<u32>>, AllocError>
     requires submitters { 1 ≤ submitters }
     requires logs { 1 ≤ length logs.now }
-    requires tables { AreTables users submitters logs.now }
+    requires tables { (worker : ℕ) (log : Log) → slice_get logs.now worker ≡ Some log
+        → log.last.share ≡ share_of users submitters (length logs.now) worker }
     ensures len { IfOk result (λ last. length last.items ≡ users) }
     ensures last { IfOk result (λ last. (user : ℕ) (log : Log) → user < users
         → slice_get logs.now (worker_of (length logs.now) (home submitters user)) ≡ Some log

@@ -1,5 +1,4 @@
-ghost use Rattle.std.specs.Prelude.{IfOk};
-ghost use Rattle.like_run.specs.Room.{IsRoom};
+ghost use Rattle.std.specs.Prelude.{◌≡◌, [], IfOk, vec_capacity};
 
 use crate::threads::worker::{Owes, Served};
 use like_board::WorkerSeat;
@@ -19,7 +18,10 @@ pub struct Room<'s> {
 impl<'s> Room<'s> {
     /// Empty room for this many workers and submitters.
     pub fn new(alloc: Global, workers: usize, submitters: usize) -> Result<Room<'s>, AllocError>
-        ensures { IfOk result (IsRoom workers submitters) }
+        ensures workers { IfOk result (λ r. (r.workers.items ≡ []) × (vec_capacity r.workers ≡ workers)) }
+        ensures submitters { IfOk result (λ r. (r.submitters.items ≡ []) × (vec_capacity r.submitters ≡ submitters)) }
+        ensures logs { IfOk result (λ r. (r.logs.items ≡ []) × (vec_capacity r.logs ≡ workers)) }
+        ensures seats { IfOk result (λ r. (r.seats.items ≡ []) × (vec_capacity r.seats ≡ workers)) }
     {
         Ok(Room {
             workers: Vec::with_capacity(alloc, workers)?,

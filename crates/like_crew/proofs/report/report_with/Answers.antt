@@ -11,11 +11,11 @@ use Rattle.like_promises.specs.declared.log.WorkerLog.{WorkerLog}
 use Rattle.like_tables.specs.Share.{worker_of}
 use Rattle.like_promises.specs.Report.{workload_by}
 use Rattle.like_promises.specs.Workload.{lists_of}
-use Rattle.like_crew.specs.Gathered.{AreTables}
+use Rattle.like_crew.proofs.LastLikes.{AreTables}
 use Rattle.like_crew.proofs.additions.Tiled.{all-there, of-likes, placed-are, stand-are, tiles-are}
 use Rattle.like_crew.proofs.Once.{collected-at, memory-alone}
 use Rattle.like_crew.proofs.OneOrder.{one-order, seen-counts}
-use Rattle.like_crew.proofs.Whole.{chosen-are, counts-are, known, last-likes-are, log-at, logs-are, logs-size, none-noted, runs-once, tables}
+use Rattle.like_crew.proofs.Whole.{chosen-are, counts-are, joined, known, last-likes-are, log-at, logs-are, logs-size, none-noted, runs-once, tables}
 use Rattle.like_serial.proofs.Reports.{right_is_report}
 use Rattle.like_crew.proofs.report.report_with.Goals as goal
 
@@ -28,7 +28,7 @@ replies_of-requires c =
     e.logs.items c.args.terms.sizes.now c.requires.sizes
     (logs-size c.args.setup.now plans c.args.terms.notes e c.requires.outcome)
     c.requires.within.numbers.workers.0
-    (log-at c.args.setup.now plans c.args.terms.notes e c.requires.outcome c.requires.outcome.counts.closed.masks))
+    (log-at c.args.setup.now plans c.args.terms.notes e c.requires.outcome c.requires.outcome.left.counts.closed.masks))
     c.requires.collected
 
 -- the number of submitters
@@ -78,7 +78,7 @@ places_of-requires-clause-few c =
 pub places_of-requires-clause-there : goal.places_of-requires-clause-there
 places_of-requires-clause-there c notes =
     let plans : List (List Request) = lists_of c.args.plans.now.value.items in
-    let closed = c.requires.outcome.counts.closed in
+    let closed = c.requires.outcome.left.counts.closed in
     let there = all-there c.args.setup.now plans c.args.terms.notes c.args.outcome c.requires.outcome closed.masks
     closed.counted notes c.requires.within.there in
     subst (λ (n : ℕ). All (λ (log : WorkerLog). All (λ (a : Added). a.page < n) log.adds.items) c.deref-2.result.now)
@@ -96,9 +96,9 @@ returns-clause-report c =
     let size : length e.logs.items ≡ workers = logs-size c.args.setup.now plans c.args.terms.notes e h in
     let sizes = c.args.terms.sizes.now in
     let many = submitters-are (length sizes) sizes (lists_of c.args.plans.now.value.items) refl c.requires.sizes in
-    let told = h.counts in
+    let told = h.left.counts in
     let pages : length e.counts.items ≡ length c.args.setup.now.pages =
-    told.len ∙ ap (λ (z : Opening). length z.counts) h.opening
+    told.len ∙ ap (λ (z : Opening). length z.counts) h.is_crew.opening
     ∙ length-map c.args.setup.now.pages (λ (p : Page). p.count) in
     let logs = logs-are c.args.setup.now plans c.args.terms.notes e h told.closed.masks told.closed.counted
     told.closed.phases in
@@ -126,7 +126,7 @@ returns-clause-report c =
           (ap (λ (logs : List WorkerLog). slice_get logs (worker_of (length logs) (home (length sizes) user)))
           c.deref.ensures.value
           ∙ ap (λ n. slice_get e.logs.items (worker_of (length e.logs.items) (home n user))) many ∙ at));
-      joined = h.joined;
+      joined = joined c.args.setup.now plans c.args.terms.notes e h;
       seen = seen-counts (workload_by c.args.setup.now plans (entries_in e.logs.items)) workers e.logs.items order;
       hot = chosen-are c.args.setup.now plans c.args.terms.notes e h told.closed.masks told.closed.counted;
     })

@@ -1,16 +1,16 @@
-ghost use Rattle.std.specs.Prelude.{◌≡◌, ◌<◌, [], IfOk, length, map, true};
+ghost use Rattle.std.specs.Prelude.{◌≡◌, ◌<◌, [], IfOk, length, map, slice_set, true};
 ghost use mathlib.Core.Option.{some};
 ghost use lib.ListN.{get_elem?};
 ghost use Rattle.like_core.specs.declared.view.CoordSeatView.{CoordSeatView};
 ghost use Rattle.like_core.specs.declared.view.View.TheVariants.{Coord, Worker};
 ghost use Rattle.like_core.specs.declared.worker_state.WorkerState.TheVariants.{Gone};
+ghost use Rattle.like_board.specs.Lent.{HasLooked};
 ghost use Rattle.like_board.specs.Own.{own_place, own_view, own_views, Knows};
 ghost use Rattle.like_promises.specs.Workload.{Workload};
 ghost use Rattle.like_requests.specs.Setup.{IsWithin};
 ghost use Rattle.like_roles.specs.worker.Follows.{IsWorkloadOf};
 ghost use Rattle.like_roles.specs.worker.New.{IsNew, IsPostOf};
 ghost use Rattle.like_crew.specs.Fresh.{IsModelled, LooksFresh};
-ghost use Rattle.like_crew.specs.OwnServer.{CameBackFrom};
 ghost use Rattle.like_crew.specs.Server.{AreInboxesFor, AreOwnPlans, IsLogOf, ServerGoesOn, WorksFor};
 ghost use Rattle.like_crew.specs.ServerTurns.{OpensAll, OpensOne, ServerTurns, TakesOpen, place_at};
 
@@ -33,6 +33,7 @@ pub struct OwnServer<I: Inbox> {
 
 impl<I: Inbox> Model for OwnServer<I> {
     ghost use Rattle.std.specs.Prelude.{[]};
+    ghost use Rattle.like_board.specs.Lent.{HasLooked};
     ghost use Rattle.like_board.specs.Own.{own_place, own_view};
     ghost use Rattle.like_crew.specs.OwnServer.{OwnServerView};
     ghost use Rattle.like_crew.specs.Serving.{IsServing, server_at};
@@ -88,7 +89,11 @@ impl<I: Inbox> OwnServer<I> {
         ensures retired { result ≡ Turn.Retired → self.new.server.worker.post.state ≡ Gone }
         ensures fresh { (c : CoordSeatView) → get_elem? (own_views board.old) 0 ≡ some (Coord c)
             → LooksFresh c.phase c.ending self.old.server self.new.server }
-        ensures came { CameBackFrom (own_views board.old) self.old board.new self.new }
+        ensures looked { HasLooked (get_elem? (own_views board.old) 0) self.old.server.worker.post
+            self.new.server.worker.post }
+        ensures place { self.new.place ≡ self.old.place }
+        ensures views { own_views board.new
+            ≡ slice_set (own_views board.old) self.old.place (Worker self.new.server.worker.post) }
     {
         let mut post = LentPost::lend(board, &mut self.seat);
         self.serving.turn(rt, &mut post, gate)

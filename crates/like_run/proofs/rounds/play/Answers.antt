@@ -4,7 +4,7 @@ use Rattle.like_crew.specs.Crew.{GoesOn}
 use Rattle.like_crew.proofs.Coordinated.{crew-further}
 use Rattle.like_crew.proofs.lists.Pairs.{pairs-length}
 use Rattle.like_crew.specs.Server.{ServerGoesOn}
-use Rattle.like_run.specs.Rounds.{IsPlayFault}
+use Rattle.like_run.specs.Rounds.{HasNotEnded, IsReplayFaultUnderWay}
 use Rattle.like_run.proofs.rounds.play.Goals as goal
 
 pub finish-requires-clause-all : goal.finish-requires-clause-all
@@ -20,23 +20,18 @@ finish-requires-clause-all c =
 
 pub returns-in_ok-finish-in-Ok-clause-script : goal.returns-in_ok-finish-in-Ok-clause-script
 returns-in_ok-finish-in-Ok-clause-script c =
-    let soon = c.in-Ok.ensures.rounds in
     let first = c.args.crew in
     record {
       last = c.make_rounds.new.crew;
       plays = record {
-        rounds = soon.rounds;
-        few = soon.few;
-        before = soon.before;
+        opened = c.open_all.new.self;
         plays = record {
           made = c.make_all.new.crew;
           entries = c.make_all.ensures.makes;
-          opened = c.open_all.new.self;
           opens = c.open_all.ensures.opens;
           waits = c.open_all.ensures.rest;
-          goes_round = soon.goes_round;
         };
-        ends = soon.ends;
+        ends = c.in-Ok.ensures.rounds;
       };
       later = crew-further first c.open_all.new.self c.make_rounds.new.crew
           (crew-further first c.make_all.new.crew c.open_all.new.self c.make_all.ensures.goes_on
@@ -47,17 +42,14 @@ returns-in_ok-finish-in-Ok-clause-script c =
 
 pub returns-in-Err-clause-fault : goal.returns-in-Err-clause-fault
 returns-in-Err-clause-fault c =
-    let most = c.in-Err.ensures.all in
-    subst (IsPlayFault c.args.script.now c.args.crew) (sym c.in-Err.ensures.fault) (record {
-      rounds = most.rounds;
-      all = most.all;
-      last = c.make_rounds.new.crew;
+    subst (IsReplayFaultUnderWay (HasNotEnded c.args.script.now c.args.crew)) (sym c.in-Err.ensures.fault) (record {
+      opened = c.open_all.new.self;
       plays = record {
         made = c.make_all.new.crew;
         entries = c.make_all.ensures.makes;
-        opened = c.open_all.new.self;
         opens = c.open_all.ensures.opens;
         waits = c.open_all.ensures.rest;
-        goes_round = most.goes_round;
       };
+      last = c.make_rounds.new.crew;
+      most = c.in-Err.ensures.all;
     })

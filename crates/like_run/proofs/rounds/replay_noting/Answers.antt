@@ -10,7 +10,7 @@ use Rattle.like_promises.specs.declared.report.Report.{Report}
 use Rattle.like_run.specs.declared.rounds.fault.ReplayFault.{ReplayFault}
 use Rattle.like_run.specs.declared.rounds.fault.ReplayFault.TheVariants.{Settings, Memory, Unfinished}
 use Rattle.like_requests.specs.declared.script.Turned.{Turned}
-use Rattle.like_run.specs.Rounds.{CanReplayScript, IsReplayFaultUnderWay, IsReplayFault}
+use Rattle.like_run.specs.Rounds.{CanReplayScript, IsReplayFaultUnderWay, IsReplayFault, IsUnfinished}
 use Rattle.like_requests.specs.Script.{IsFirstAway, IsInRun}
 use Rattle.like_run.proofs.rounds.replay_noting.Goals as goal
 
@@ -56,7 +56,7 @@ when-fits setup plans script (Err fault) fits = tt
 
 run-fault : (setup : Setup) (plans : List (List Request)) (script : List Turned) (r : Result Report ReplayFault)
     → CanReplayScript setup plans script
-    → IfErr r (IsReplayFaultUnderWay setup plans script)
+    → IfErr r (IsReplayFaultUnderWay (IsUnfinished setup plans script))
     → IfErr r (IsReplayFault setup plans script)
 run-fault setup plans script (Ok report) fits h = tt
 run-fault setup plans script (Err (Settings why)) fits h = absurd h

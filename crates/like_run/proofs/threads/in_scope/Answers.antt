@@ -11,15 +11,15 @@ fits size many room sized roomy = omega arith
 
 pub start_all-all-requires-clause-workers : goal.start_all-all-requires-clause-workers
 start_all-all-requires-clause-workers g c κs within = (
-  c.in-Ok.ensures.no_workers,
+  c.in-Ok.ensures.workers.0,
   fits (length c.args.crew.servers.items) _ _ (c.len.ensures ∙ c.args.crew.servers.ok.0)
-      c.in-Ok.ensures.workers_room,
+      c.in-Ok.ensures.workers.1,
 )
 
 pub start_all-all-requires-clause-submitters : goal.start_all-all-requires-clause-submitters
 start_all-all-requires-clause-submitters g c κs within = (
-  c.in-Ok.ensures.no_submitters,
-  fits (length c.args.ends.items) _ _ (c.len-2.ensures ∙ c.args.ends.ok.0) c.in-Ok.ensures.submitters_room,
+  c.in-Ok.ensures.submitters.0,
+  fits (length c.args.ends.items) _ _ (c.len-2.ensures ∙ c.args.ends.ok.0) c.in-Ok.ensures.submitters.1,
 )
 
 pub join_all-requires-clause-goes : goal.join_all-requires-clause-goes
@@ -30,18 +30,18 @@ join_all-requires-clause-told g c = λ k d below. c.start_all-all.ensures.told k
 
 pub join_all-requires-clause-logs : goal.join_all-requires-clause-logs
 join_all-requires-clause-logs g c = (
-  c.in-Ok.ensures.no_logs,
+  c.in-Ok.ensures.logs.0,
   threads-fit c.start_all-all.new.workers.items c.args.crew.servers.items _ _
       (c.start_all-all.ensures.servers c.in-Some.ensures.all) (c.len.ensures ∙ c.args.crew.servers.ok.0)
-      c.in-Ok.ensures.logs_room,
+      c.in-Ok.ensures.logs.1,
 )
 
 pub join_all-requires-clause-seats : goal.join_all-requires-clause-seats
 join_all-requires-clause-seats g c = (
-  c.in-Ok.ensures.no_seats,
+  c.in-Ok.ensures.seats.0,
   threads-fit c.start_all-all.new.workers.items c.args.crew.servers.items _ _
       (c.start_all-all.ensures.servers c.in-Some.ensures.all) (c.len.ensures ∙ c.args.crew.servers.ok.0)
-      c.in-Ok.ensures.seats_room,
+      c.in-Ok.ensures.seats.1,
 )
 
 pub returns-clause-ended : goal.returns-clause-ended

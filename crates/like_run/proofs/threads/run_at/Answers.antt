@@ -15,7 +15,7 @@ use Rattle.like_crew.specs.Ended.{IsEnded}
 use Rattle.like_crew.specs.Server.{plans_of}
 use Rattle.like_crew.specs.Site.{IsSite}
 use Rattle.like_crew.proofs.Asked.{requests_of}
-use Rattle.like_crew.proofs.Ending.{as-many, has-ended}
+use Rattle.like_crew.proofs.Ending.{as-many}
 use Rattle.like_crew.proofs.Makings.{all-small, are-untouched, plans-are}
 use Rattle.like_promises.specs.declared.run_fault.RunFault.{RunFault}
 use Rattle.like_queue.specs.declared.lines.Lines.{Lines}
@@ -39,7 +39,7 @@ ended-at : (setup : Setup) (plans : List (List Request)) (site : Site) (starts :
     → IfOk r (IsEnded setup plans site)
 ended-at setup plans site starts crew ends r is h =
     IfOk-weaker r (HasEndedOn starts crew ends) (IsEnded setup plans site)
-    (λ e on. has-ended setup plans site crew e is on.ended) h
+    (λ e on. record { crew = crew; is_crew = is; ended = on.ended }) h
 
 -- and enough threads could be started
 enough-started : (setup : Setup) (plans : List (List Request)) (site : Site) (starts : ℕ) (crew : CrewView)

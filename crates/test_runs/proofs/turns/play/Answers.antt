@@ -2,7 +2,7 @@ use Rattle.std.proofs.Common.{◌∙◌, sym, ap, subst}
 use Rattle.std.specs.Prelude.{IfOk}
 use Rattle.like_core.specs.declared.opening.Opening.{Opening}
 use Rattle.like_crew.specs.Crew.{GoesOn}
-use Rattle.like_crew.specs.OwnCrew.{HasOutcome}
+use Rattle.like_crew.specs.Outcome.{HasOutcome}
 use Rattle.like_crew.specs.Server.{ServerGoesOn}
 use Rattle.like_crew.proofs.Coordinated.{crew-further}
 use Rattle.like_crew.proofs.lists.Pairs.{pairs-length}

@@ -9,7 +9,7 @@ use Rattle.like_board.specs.Seats.{AreAll}
 use Rattle.like_board.specs.declared.worker_seat.WorkerSeat.{WorkerSeat}
 use Rattle.like_crew.specs.Crew.{AreGone, CrewView}
 use Rattle.like_crew.specs.declared.outcome.Outcome.{Outcome}
-use Rattle.like_crew.specs.OwnCrew.{HasOutcome}
+use Rattle.like_crew.specs.Outcome.{HasOutcome}
 use Rattle.like_crew.specs.OwnServer.{OwnServerView}
 use Rattle.like_crew.proofs.servers.OwnFinishing.{own-all, own-gone, own-like, views-left}
 use Rattle.like_crew.proofs.crew.own_crew.OwnCrew.finish.Goals as goal

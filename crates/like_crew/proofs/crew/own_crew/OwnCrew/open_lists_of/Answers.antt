@@ -1,6 +1,5 @@
-use Rattle.std.proofs.Common.{◌≡◌, ◌<◌, length, set, slice_get, Some, refl, sym, subst, arith}
+use Rattle.std.proofs.Common.{◌<◌, length, set, sym, subst, arith, ap}
 use Rattle.std.proofs.lemmas.List.{length-map}
-use Rattle.std.proofs.lemmas.Option.{slice_get_read}
 use Rattle.like_board.specs.Own.{own_views}
 use Rattle.like_crew.specs.Crew.{CrewView, GoesOn}
 use Rattle.like_crew.specs.OwnCrew.{servers_of}
@@ -8,7 +7,7 @@ use Rattle.like_crew.specs.OwnServer.{OwnServerView}
 use Rattle.like_crew.specs.ServerTurns.{OpensAll}
 use Rattle.like_crew.specs.Steps.{AtServer}
 use Rattle.like_roles.proofs.choice.Coordinating.{coordinator-same}
-use Rattle.like_crew.proofs.servers.Seated.{all-go-on, at-server, seated-same}
+use Rattle.like_crew.proofs.servers.Seated.{all-go-on, at-server, seated-same, stands-at}
 use Rattle.like_crew.proofs.crew.own_crew.OwnCrew.open_lists_of.Goals as goal
 
 pub index_mut-requires : goal.index_mut-requires
@@ -22,12 +21,8 @@ pub invariant_of-self : goal.invariant_of-self
 invariant_of-self c =
     let servers = c.self.inside.servers.items in
     let k = c.args.worker in
-    let below : k < length (servers_of servers) =
-    subst (λ (v : CrewView). k < length v.servers) (sym c.self.view_is) c.requires in
     let s : OwnServerView = c.index_mut.result.now in
-    let at : slice_get servers k ≡ Some s =
-    slice_get_read servers (length servers) k s refl
-    (omega (arith, below, length-map servers (λ (x : OwnServerView). x.server))) c.index_mut.ensures.value in
+    let at = stands-at servers _ k s (ap (λ (v : CrewView). v.servers) c.self.view_is) c.requires c.index_mut.ensures.value in
     let seat = c.self.inside.coordinator.seat in
     let t : OwnServerView = c.open_all.new.self in
     let told = c.open_all.ensures in (
@@ -40,12 +35,8 @@ pub returns-clause-opens : goal.returns-clause-opens
 returns-clause-opens c =
     let servers = c.self.inside.servers.items in
     let k = c.args.worker in
-    let below : k < length (servers_of servers) =
-    subst (λ (v : CrewView). k < length v.servers) (sym c.self.view_is) c.requires in
     let s : OwnServerView = c.index_mut.result.now in
-    let at : slice_get servers k ≡ Some s =
-    slice_get_read servers (length servers) k s refl
-    (omega (arith, below, length-map servers (λ (x : OwnServerView). x.server))) c.index_mut.ensures.value in
+    let at = stands-at servers _ k s (ap (λ (v : CrewView). v.servers) c.self.view_is) c.requires c.index_mut.ensures.value in
     let t : OwnServerView = c.open_all.new.self in
     let told = c.open_all.ensures in
     subst (λ (v : CrewView). AtServer k OpensAll v.servers (servers_of (set servers k t)))
@@ -55,12 +46,8 @@ pub returns-clause-goes_on : goal.returns-clause-goes_on
 returns-clause-goes_on c =
     let servers = c.self.inside.servers.items in
     let k = c.args.worker in
-    let below : k < length (servers_of servers) =
-    subst (λ (v : CrewView). k < length v.servers) (sym c.self.view_is) c.requires in
     let s : OwnServerView = c.index_mut.result.now in
-    let at : slice_get servers k ≡ Some s =
-    slice_get_read servers (length servers) k s refl
-    (omega (arith, below, length-map servers (λ (x : OwnServerView). x.server))) c.index_mut.ensures.value in
+    let at = stands-at servers _ k s (ap (λ (v : CrewView). v.servers) c.self.view_is) c.requires c.index_mut.ensures.value in
     let t : OwnServerView = c.open_all.new.self in
     let v = c.self.inside.coordinator in
     subst (λ (u : CrewView). GoesOn u (record { coordinator = v; servers = servers_of (set servers k t) }))

@@ -1,20 +1,31 @@
 use Rattle.std.proofs.Common.{true≢false, sym, ◌∙◌}
-use Rattle.like_crew.proofs.Rounds.{round-of}
 use Rattle.like_crew.proofs.crew.own_crew.OwnCrew.round.Goals as goal
 
 pub returns-then-ended-clause-round : goal.returns-then-ended-clause-round
 returns-then-ended-clause-round c =
     let led = c.ends-ended.ensures.leads in
     let told = c.turns-gone.ensures in
-    round-of c.turns-gone.result c.args.self.now c.ends-ended.new.self c.turns-gone.new.self led.answer led.leads told.rest
-    told.turns
-    (λ e. (led.tells.0 c.if-ended.true, told.gone.0 e), λ ended. told.gone.1 ended.1)
+    record {
+      answer = led.0;
+      led = c.ends-ended.new.self;
+      leads = led.1.0;
+      workers = told.turns;
+      rest = told.rest;
+      tells = (λ e. (led.1.1.0 c.if-ended.true, told.gone.0 e), λ ended. told.gone.1 ended.1);
+    }
 
 pub returns-else-ended-clause-round : goal.returns-else-ended-clause-round
 returns-else-ended-clause-round c =
     let led = c.ends-ended.ensures.leads in
     let told = c.turns-gone.ensures in
-    round-of c.ends-ended.result c.args.self.now c.ends-ended.new.self c.turns-gone.new.self led.answer led.leads told.rest told.turns (
-      λ e. absurd (true≢false (sym e ∙ c.if-ended.false)),
-      λ ended. absurd (true≢false (sym (led.tells.1 ended.0) ∙ c.if-ended.false)),
-    )
+    record {
+      answer = led.0;
+      led = c.ends-ended.new.self;
+      leads = led.1.0;
+      workers = told.turns;
+      rest = told.rest;
+      tells = (
+        λ e. absurd (true≢false (sym e ∙ c.if-ended.false)),
+        λ ended. absurd (true≢false (sym (led.1.1.1 ended.0) ∙ c.if-ended.false)),
+      );
+    }

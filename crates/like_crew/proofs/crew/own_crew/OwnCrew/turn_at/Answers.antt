@@ -1,6 +1,5 @@
-use Rattle.std.proofs.Common.{◌≡◌, ◌<◌, length, set, slice_get, Some, refl, sym, subst, arith}
+use Rattle.std.proofs.Common.{◌≡◌, ◌<◌, length, set, refl, sym, subst, arith, ap}
 use Rattle.std.proofs.lemmas.List.{length-map}
-use Rattle.std.proofs.lemmas.Option.{slice_get_read}
 use Rattle.like_core.specs.declared.worker_state.WorkerState.TheVariants.{Gone}
 use Rattle.like_board.specs.Own.{own_views}
 use Rattle.like_roles.specs.declared.turn.Turn.TheVariants.{Retired}
@@ -10,7 +9,7 @@ use Rattle.like_crew.specs.OwnServer.{OwnServerView}
 use Rattle.like_crew.specs.Server.{ServerView}
 use Rattle.like_crew.specs.Steps.{AtServer, IsFreshTurn}
 use Rattle.like_roles.proofs.choice.Coordinating.{coordinator-same}
-use Rattle.like_crew.proofs.servers.Seated.{all-go-on, at-server, lead-known, seat-known, seated-after}
+use Rattle.like_crew.proofs.servers.Seated.{all-go-on, at-server, lead-known, seat-known, seated-after, stands-at}
 use Rattle.like_crew.proofs.crew.own_crew.OwnCrew.turn_at.Goals as goal
 
 pub index_mut-requires : goal.index_mut-requires
@@ -24,29 +23,21 @@ pub turn-requires-after_bounds : goal.turn-requires-after_bounds
 turn-requires-after_bounds c κs =
     let servers = c.self.inside.servers.items in
     let k = c.args.worker in
-    let below : k < length (servers_of servers) =
-    subst (λ (v : CrewView). k < length v.servers) (sym c.self.view_is) c.requires in
     let s : OwnServerView = c.index_mut.result.now in
-    let at : slice_get servers k ≡ Some s =
-    slice_get_read servers (length servers) k s refl
-    (omega (arith, below, length-map servers (λ (x : OwnServerView). x.server))) c.index_mut.ensures.value in
+    let at = stands-at servers _ k s (ap (λ (v : CrewView). v.servers) c.self.view_is) c.requires c.index_mut.ensures.value in
     seat-known (own_views c.self.inside.board) c.self.inside.coordinator.seat servers c.self.invariant.0 k s at
 
 pub invariant_of-self : goal.invariant_of-self
 invariant_of-self c =
     let servers = c.self.inside.servers.items in
     let k = c.args.worker in
-    let below : k < length (servers_of servers) =
-    subst (λ (v : CrewView). k < length v.servers) (sym c.self.view_is) c.requires in
     let s : OwnServerView = c.index_mut.result.now in
-    let at : slice_get servers k ≡ Some s =
-    slice_get_read servers (length servers) k s refl
-    (omega (arith, below, length-map servers (λ (x : OwnServerView). x.server))) c.index_mut.ensures.value in
+    let at = stands-at servers _ k s (ap (λ (v : CrewView). v.servers) c.self.view_is) c.requires c.index_mut.ensures.value in
     let seat = c.self.inside.coordinator.seat in
     let t : OwnServerView = c.turn.new.self in
     let told = c.turn.ensures in (
-      seated-after (own_views c.self.inside.board) seat servers c.self.invariant.0 _ k s t at told.came.place_is
-          told.came.views_are,
+      seated-after (own_views c.self.inside.board) seat servers c.self.invariant.0 _ k s t at told.place
+          told.views,
       c.self.invariant.1,
       c.self.invariant.2,
     )
@@ -55,12 +46,8 @@ pub returns-clause-case : goal.returns-clause-case
 returns-clause-case c =
     let servers = c.self.inside.servers.items in
     let k = c.args.worker in
-    let below : k < length (servers_of servers) =
-    subst (λ (v : CrewView). k < length v.servers) (sym c.self.view_is) c.requires in
     let s : OwnServerView = c.index_mut.result.now in
-    let at : slice_get servers k ≡ Some s =
-    slice_get_read servers (length servers) k s refl
-    (omega (arith, below, length-map servers (λ (x : OwnServerView). x.server))) c.index_mut.ensures.value in
+    let at = stands-at servers _ k s (ap (λ (v : CrewView). v.servers) c.self.view_is) c.requires c.index_mut.ensures.value in
     let t : OwnServerView = c.turn.new.self in
     let told = c.turn.ensures in
     subst (λ (v : CrewView). AtServer k (λ s t. IsFreshTurn v.coordinator.seat c.turn.result s t
@@ -80,12 +67,8 @@ pub returns-clause-goes_on : goal.returns-clause-goes_on
 returns-clause-goes_on c =
     let servers = c.self.inside.servers.items in
     let k = c.args.worker in
-    let below : k < length (servers_of servers) =
-    subst (λ (v : CrewView). k < length v.servers) (sym c.self.view_is) c.requires in
     let s : OwnServerView = c.index_mut.result.now in
-    let at : slice_get servers k ≡ Some s =
-    slice_get_read servers (length servers) k s refl
-    (omega (arith, below, length-map servers (λ (x : OwnServerView). x.server))) c.index_mut.ensures.value in
+    let at = stands-at servers _ k s (ap (λ (v : CrewView). v.servers) c.self.view_is) c.requires c.index_mut.ensures.value in
     let t : OwnServerView = c.turn.new.self in
     let v = c.self.inside.coordinator in
     subst (λ (u : CrewView). GoesOn u (record { coordinator = v; servers = servers_of (set servers k t) }))
