@@ -12,10 +12,9 @@ use Rattle.like_serial.proofs.Seen.{not_some, some_is}
 use Rattle.like_serial.proofs.Weigh.{only, sum-weigh, weigh, weigh-append, weigh-filter}
 use Rattle.like_live.specs.declared.opening.Opening.{Opening}
 use Rattle.like_live.specs.CrossedLooks.{CrossedLooksAreNotSerial, IsForTwo, like_and_look}
-use Rattle.like_live.specs.DeedStore.{ShowsLast}
 use Rattle.like_live.specs.Deeds.{Deed, counted, deed, showed}
 use Rattle.like_live.specs.StrictService.{IsEarlier, IsStrictService, deeds_by}
-use Rattle.like_live.proofs.DeedLikes.{ShowsCount, count_after, fits_store, last_after, shows_count}
+use Rattle.like_live.proofs.DeedLikes.{ShowsCount, ShowsLast, count_after, fits_store, last_after, shows_count}
 use Rattle.like_live.proofs.DeedPhases.{phase_of_deed}
 use Rattle.like_live.proofs.DeedTotals.{likes_of_deed}
 

@@ -4,15 +4,17 @@ use Rattle.std.specs.List.{All, cons_option, last_or}
 use Rattle.std.proofs.lemmas.List.Elements.{All-tail, filter_map-append}
 use Rattle.like_core.specs.declared.log.Logged.{Logged}
 use Rattle.like_core.specs.Log.{latest_number}
+use Rattle.like_promises.specs.declared.reply.Reply.TheVariants.{Seen}
+use Rattle.like_promises.specs.Store.{Store}
 use Rattle.like_serial.proofs.Seen.{not_some, some_is}
 use Rattle.like_tables.specs.UserTable.{last_of}
 use Rattle.like_live.specs.declared.asked.Found.{Found}
 use Rattle.like_live.specs.LiveView.{LiveView}
 use Rattle.like_live.specs.Moves.{IsFoundAt, with_found}
-use Rattle.like_live.specs.DeedStore.{DeedsShowLasts, ShowsLast, store_of}
-use Rattle.like_live.specs.Deeds.{Deed, counted, deed, deed_found, deeds_found, deeds_of, made_since}
+use Rattle.like_live.specs.DeedStore.{DeedsShowLasts, Fits, store_after, store_of}
+use Rattle.like_live.specs.Deeds.{Act, Deed, counted, deed, deed_found, deeds_found, deeds_of, glimpsed, made_since, showed}
 use Rattle.like_live.specs.History.{HasDone, IsUnused, Told}
-use Rattle.like_live.proofs.DeedLikes.{last_is, page_counted, pages_counted}
+use Rattle.like_live.proofs.DeedLikes.{ShowsLast, last_is, page_counted, pages_counted}
 use Rattle.like_live.proofs.Histories.{last_or-append}
 use Rattle.like_live.proofs.Standing.{IsKept, Stands, kept_by_calls}
 use Rattle.like_live.proofs.Stepping.{Step, acknowledges, adds_like, done_by, finds, glances, holds, looks, next, reads, reports, retires, returns, slices_like, takes}
@@ -140,7 +142,16 @@ pub deeds_show : (v after : LiveView) (told : List Told) (done : HasDone v told 
 deeds_show v after told done unused i d at =
     all_after-at (Shows v) [] _ i d (calls_leave_lasts v after told done unused).shows at
 
+-- a deed that shows its user's last like in a store fits that store, if the count is the one that it shows
+fits_last : (s : Store) (user page : ℕ) (a : Act) → ShowsLast (s.last user) a
+    → (count : ℕ → ℕ) × Fits (record s { count = count }) user page a
+fits_last s user page counted last = (s.count, tt)
+fits_last s user page (showed seen) last = (λ _. seen.count, ap (λ o. Seen o seen.count) (sym last))
+fits_last s user page (glimpsed seen) last = (s.count, sym last)
+
 pub deeds_show_lasts : DeedsShowLasts
 deeds_show_lasts v after told done unused i d at =
-    subst (λ o. ShowsLast o d.act) (sym (last_is (store_of v) (take i (deeds_of told v after done)) d.user))
-    (deeds_show v after told done unused i d at)
+    let before = take i (deeds_of told v after done) in
+    fits_last (store_after (store_of v) before) d.user d.page d.act
+    (subst (λ o. ShowsLast o d.act) (sym (last_is (store_of v) before d.user))
+    (deeds_show v after told done unused i d at))

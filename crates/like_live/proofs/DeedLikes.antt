@@ -13,7 +13,7 @@ use Rattle.like_serial.proofs.Stores as store
 use Rattle.like_serial.proofs.Weigh.{sum-weigh, weigh-alike}
 use Rattle.like_tables.specs.UserTable.{last_in}
 use Rattle.like_live.specs.declared.opening.Opening.{Opening}
-use Rattle.like_live.specs.DeedStore.{Fits, ShowsLast, asked, store_after}
+use Rattle.like_live.specs.DeedStore.{Fits, asked, store_after}
 use Rattle.like_live.specs.Deeds.{Act, Deed, counted, glimpsed, showed}
 use Rattle.like_live.specs.StrictService.{opened}
 
@@ -41,6 +41,12 @@ last_after o user deeds = last_or (last_in o.lasts.items user) (pages_counted us
 
 abbrev pub count_after : Opening → ℕ → List Deed → ℕ
 count_after o page deeds = slice_index o.counts.items page + likes_among page deeds
+
+-- this last like was shown, if one was
+abbrev pub ShowsLast : Option ℕ → Act → Type 0
+ShowsLast last counted = Unit {0}
+ShowsLast last (showed s) = s.last ≡ last
+ShowsLast last (glimpsed s) = s.last ≡ last
 
 -- this count was shown, if one was, but for glances at pages that are split
 abbrev pub ShowsCount : ℕ → Act → Type 0

@@ -24,9 +24,9 @@ use Rattle.like_live.specs.declared.asked.Found.{Found}
 use Rattle.like_live.specs.LiveView.{LiveView, tally, waiting, with_station}
 use Rattle.like_live.specs.Calls as calls
 use Rattle.like_live.specs.Calls.{GlanceCase, GlancesNow, LikeCase, LikesNow, LookCase, LooksNow, TakesFound, asked_in}
-use Rattle.like_live.specs.History.{Ask, Does, HasDone, HistoriesAreCounted, IsUnused, NoneWaitsOnceGone, Told, ask_of, ask_taken, ask_told, ask_waiting, asks_left, asks_taken, asks_told, come_back, glance, like, like_on, like_told, likes_told, look, page_liked, pages_liked, retire, take_found, turn}
+use Rattle.like_live.specs.History.{Does, HasDone, HistoriesAreCounted, IsUnused, NoneWaitsOnceGone, TaggedLook, Told, come_back, glance, like, like_on, like_told, likes_told, look, look_of, look_taken, look_told, look_waiting, looks_left, looks_taken, looks_told, page_liked, pages_liked, retire, take_found, turn}
 use Rattle.like_live.proofs.Calling.{LikesNow-tallies}
-use Rattle.like_live.proofs.Telling.{IsQuiet, IsQuiet-both, IsQuiet-come_back, IsQuiet-moves, IsQuiet-retires, IsQuiet-same, IsTold, IsTold-after, IsTold-quiet, IsWhole, TellsNothing, is_counted, last-more, merged-asks, user_there}
+use Rattle.like_live.proofs.Telling.{IsQuiet, IsQuiet-both, IsQuiet-come_back, IsQuiet-moves, IsQuiet-retires, IsQuiet-same, IsTold, IsTold-after, IsTold-quiet, IsWhole, TellsNothing, is_counted, last-more, merged-looks, user_there}
 
 -- a like at a seat that runs a phase
 told-like : (v after : LiveView) (user page : ℕ) (answer : LikeAnswer)
@@ -57,7 +57,7 @@ told-like v after user page answer whole (calls.liked old s accepted few a count
           ap (λ (w : LiveView). last_of w.station.last other) is ∙ ap (λ (t : UserTable). last_of t other) c.last
           ∙ last-more v.station.last user page other there
           ∙ sym (ap (λ x. last_or (last_of v.station.last other) (page_liked other (like user page x))) a);
-      asks = ap asks_left is ∙ merged-asks v s c.held ∙ sym (append-nil (asks_left v));
+      looks = ap looks_left is ∙ merged-looks v s c.held ∙ sym (append-nil (looks_left v));
     }
 
 -- and a like of a row
@@ -68,7 +68,7 @@ told-row v after user page answer t = record {
   whole = t.whole;
   tallies = t.tallies;
   last = λ other. t.last other ∙ ap (last_or (last_of v.station.last other)) (pages other answer);
-  asks = t.asks;
+  looks = t.looks;
 }
   where
     pages : (other : ℕ) (answer : LikeAnswer)
@@ -95,7 +95,7 @@ told-look v after user page tag answer whole (calls.seen shown s accepted plain 
       whole = record { sized = whole.sized; table = whole.table; empty = whole.empty };
       tallies = λ p. refl;
       last = refl;
-      asks = refl;
+      looks = refl;
     }))
     (subst (λ x. TellsNothing (look user page tag x)) (sym a)
     (record { likes = λ p. refl; pages = λ u. refl; taken = refl; told = refl }))
@@ -110,10 +110,10 @@ told-look v after user page tag answer whole (calls.waits accepted split room a 
       };
       tallies = λ p. omega arith;
       last = λ u. refl;
-      asks =
-          ap (λ xs. map ask_of v.found ++ xs) (map-append ask_waiting (waiting v) (asked_in (phase_at v.station) user page tag ∷ []))
-          ∙ sym (append_assoc (map ask_of v.found) (map ask_waiting (waiting v))
-          (ask_waiting (asked_in (phase_at v.station) user page tag) ∷ []));
+      looks =
+          ap (λ xs. map look_of v.found ++ xs) (map-append look_waiting (waiting v) (asked_in (phase_at v.station) user page tag ∷ []))
+          ∙ sym (append_assoc (map look_of v.found) (map look_waiting (waiting v))
+          (look_waiting (asked_in (phase_at v.station) user page tag) ∷ []));
     }))
   where
     -- no page is split for one that is gone
@@ -134,14 +134,14 @@ quiet-glance v after user page answer whole (calls.plain shown s accepted plain 
       whole = record { sized = whole.sized; table = whole.table; empty = whole.empty };
       tallies = λ p. refl;
       last = refl;
-      asks = refl;
+      looks = refl;
     })
 quiet-glance v after user page answer whole (calls.split shown s accepted split a glances is) =
     subst (IsQuiet v) (sym (is ∙ ap (with_station v) glances.glanced)) (record {
       whole = record { sized = whole.sized; table = whole.table; empty = whole.empty };
       tallies = λ p. refl;
       last = refl;
-      asks = refl;
+      looks = refl;
     })
 
 told-glance : (v after : LiveView) (user page : ℕ) (answer : GlanceAnswer)
@@ -152,10 +152,10 @@ told-glance v after user page answer q =
     (record { likes = λ p. refl; pages = λ u. refl; taken = refl; told = refl })
 
 -- a found look that is taken
-takes-asks : (fs : List Found) (waits : List Ask) (taken : Option Found) → taken ≡ slice_get fs 0
-    → ask_taken (take_found taken) ++ (map ask_of (drop 1 fs) ++ waits) ≡ map ask_of fs ++ waits
-takes-asks [] waits taken e = ap (λ (o : Option Found). ask_taken (take_found o) ++ waits) e
-takes-asks (f ∷ fs) waits taken e = ap (λ (o : Option Found). ask_taken (take_found o) ++ (map ask_of fs ++ waits)) e
+takes-looks : (fs : List Found) (waits : List TaggedLook) (taken : Option Found) → taken ≡ slice_get fs 0
+    → look_taken (take_found taken) ++ (map look_of (drop 1 fs) ++ waits) ≡ map look_of fs ++ waits
+takes-looks [] waits taken e = ap (λ (o : Option Found). look_taken (take_found o) ++ waits) e
+takes-looks (f ∷ fs) waits taken e = ap (λ (o : Option Found). look_taken (take_found o) ++ (map look_of fs ++ waits)) e
 
 told-take : (v after : LiveView) (taken : Option Found)
     → IsWhole v
@@ -165,7 +165,7 @@ told-take v after taken whole takes = subst (λ w. IsTold v w (take_found taken)
   whole = record { sized = whole.sized; table = whole.table; empty = whole.empty };
   tallies = λ p. omega arith;
   last = λ u. refl;
-  asks = takes-asks v.found (map ask_waiting (waiting v)) taken takes.0 ∙ sym (append-nil (asks_left v));
+  looks = takes-looks v.found (map look_waiting (waiting v)) taken takes.0 ∙ sym (append-nil (looks_left v));
 })
 
 -- each call tells what it does
@@ -224,7 +224,7 @@ record AreTold (v after : LiveView) (told : List Told) : Type 0 where
   whole : IsWhole after
   tallies : (page : ℕ) → tally after page ≡ tally v page + likes_told page told
   last : (user : ℕ) → last_of after.station.last user ≡ last_or (last_of v.station.last user) (pages_liked user told)
-  asks : asks_taken told ++ asks_left after ≡ asks_left v ++ asks_told told
+  looks : looks_taken told ++ looks_left after ≡ looks_left v ++ looks_told told
 
 pub last_or-append : (o : Option ℕ) (xs ys : List ℕ) → last_or o (xs ++ ys) ≡ last_or (last_or o xs) ys
 last_or-append o [] ys = refl
@@ -235,7 +235,7 @@ are_told [] v after whole is = subst (λ w. AreTold v w []) (sym is) (record {
   whole = whole;
   tallies = λ page. omega arith;
   last = λ user. refl;
-  asks = sym (append-nil (asks_left v));
+  looks = sym (append-nil (looks_left v));
 })
 are_told (t ∷ told) v after whole d =
     let now = d.0 in
@@ -248,12 +248,12 @@ are_told (t ∷ told) v after whole d =
       last = λ user.
           rest.last user ∙ ap (λ (o : Option ℕ). last_or o (pages_liked user told)) (first.last user)
           ∙ sym (last_or-append (last_of v.station.last user) (page_liked user t) (pages_liked user told));
-      asks =
-          append_assoc (ask_taken t) (asks_taken told) (asks_left after)
-          ∙ ap (λ xs. ask_taken t ++ xs) rest.asks
-          ∙ sym (append_assoc (ask_taken t) (asks_left now) (asks_told told))
-          ∙ ap (λ xs. xs ++ asks_told told) first.asks
-          ∙ append_assoc (asks_left v) (ask_told t) (asks_told told);
+      looks =
+          append_assoc (look_taken t) (looks_taken told) (looks_left after)
+          ∙ ap (λ xs. look_taken t ++ xs) rest.looks
+          ∙ sym (append_assoc (look_taken t) (looks_left now) (looks_told told))
+          ∙ ap (λ xs. xs ++ looks_told told) first.looks
+          ∙ append_assoc (looks_left v) (look_told t) (looks_told told);
     }
 
 pub whole_at_first : (v : LiveView) → IsUnused v → IsWhole v
@@ -276,7 +276,7 @@ pub histories_are_counted : HistoriesAreCounted
 histories_are_counted v after told unused done =
     let new = unused.new in
     let t = are_told told v after (whole_at_first v unused) done in
-    let nothing : asks_left v ≡ [] = λ m. map ask_of (new.found m) ++ map ask_waiting ((new.held m).held) in
+    let nothing : looks_left v ≡ [] = λ m. map look_of (new.found m) ++ map look_waiting ((new.held m).held) in
     record {
       tallies = λ page.
           let added : added_to page (additions_among v.station.post.did) ≡ 0 =
@@ -287,5 +287,5 @@ histories_are_counted v after told unused done =
           let all = t.tallies page in
           omega arith;
       last = t.last;
-      taken = t.asks ∙ ap (λ xs. xs ++ asks_told told) nothing;
+      taken = t.looks ∙ ap (λ xs. xs ++ looks_told told) nothing;
     }

@@ -26,11 +26,10 @@ use Rattle.like_serial.proofs.Weigh.{only, sum-weigh, weigh, weigh-filter}
 use Rattle.like_tables.specs.UserTable.{last_in, last_of}
 use Rattle.like_live.specs.declared.opening.Opening.{Opening}
 use Rattle.like_live.specs.LiveView.{LiveView}
-use Rattle.like_live.specs.DeedStore.{ShowsLast}
 use Rattle.like_live.specs.Deeds.{Act, Deed, counted, glimpsed, showed}
 use Rattle.like_live.specs.StrictService.{HasLastLikes, IsStrictService, SeatHistory, deeds_in, opened as store_opened}
 use Rattle.like_live.proofs.DeedPlaces.{MayHave}
-use Rattle.like_live.proofs.DeedLikes.{ShowsCount, count_after, fits_store, last_after, last_is, likes_among, pages_counted, user_likes}
+use Rattle.like_live.proofs.DeedLikes.{ShowsCount, ShowsLast, count_after, fits_store, last_after, last_is, likes_among, pages_counted, user_likes}
 use Rattle.like_live.proofs.DeedPhases.{phase_of_deed}
 use Rattle.like_live.proofs.DeedPlain.{ReadsPlain, deed_under, entry_under}
 use Rattle.like_live.proofs.DeedTotals.{deed_in, is_none, likes_of_deed, sliced_in, step_in}

@@ -39,13 +39,12 @@ use Rattle.like_live.specs.LiveView.{LiveView}
 use Rattle.like_live.specs.History.{IsUnused}
 use Rattle.like_live.specs.Opening.{board_opening}
 use Rattle.like_live.specs.Service.{AreOpenedSeats, IsOpenedSeat, posts_at}
-use Rattle.like_live.specs.DeedStore.{ShowsLast}
 use Rattle.like_live.specs.Deeds.{Act, Deed, counted, glimpsed, showed}
 use Rattle.like_live.specs.StrictService.{SeatHistory, deeds_in}
 use Rattle.like_live.proofs.Closing.{all-of-map, post_at}
 use Rattle.like_live.proofs.DeedPlaces.{HasPlace, HavePlaces, MayHave, calls_have_places, each_place, places_in_time}
 use Rattle.like_live.proofs.DeedLasts.{calls_leave_lasts, deeds_show}
-use Rattle.like_live.proofs.DeedLikes.{last_after, pages_counted}
+use Rattle.like_live.proofs.DeedLikes.{ShowsLast, last_after, pages_counted}
 use Rattle.like_live.proofs.DeedOwners.{AreHis, his_kept}
 use Rattle.like_live.proofs.DeedPlain.{HasPlain, ReadsPlain, deed_under, entry_under, plain_kept}
 use Rattle.like_live.proofs.DeedTotals.{HasTotals, deed_in, likes_of_deed, sliced_in, step_in, totals_kept}

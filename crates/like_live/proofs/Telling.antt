@@ -19,7 +19,7 @@ use Rattle.like_live.specs.Moves as moves
 use Rattle.like_live.specs.Moves.{FindsAll, Moves, MovesBy, Works, looked}
 use Rattle.like_live.specs.Calls as calls
 use Rattle.like_live.specs.Calls.{ComeBackCase, RetireCase, RetireWorks, verdict_at}
-use Rattle.like_live.specs.History.{Told, ask_of, ask_taken, ask_told, ask_waiting, asks_left, like_told, page_liked}
+use Rattle.like_live.specs.History.{Told, like_told, look_of, look_taken, look_told, look_waiting, looks_left, page_liked}
 use Rattle.like_live.proofs.Requests.{passes_at}
 use Rattle.like_live.proofs.Moving.{IsSized, Leaves, Leaves-come_back, Leaves-moves, Leaves-retires}
 
@@ -34,21 +34,21 @@ pub record IsQuiet (v after : LiveView) : Type 0 where
   pub whole : IsWhole after
   pub tallies : KeepsTallies v after
   pub last : after.station.last ≡ v.station.last
-  pub asks : asks_left after ≡ asks_left v
+  pub looks : looks_left after ≡ looks_left v
 
 -- what a call tells is what it does
 pub record IsTold (v after : LiveView) (t : Told) : Type 0 where
   pub whole : IsWhole after
   pub tallies : (page : ℕ) → tally after page ≡ tally v page + like_told page t
   pub last : (user : ℕ) → last_of after.station.last user ≡ last_or (last_of v.station.last user) (page_liked user t)
-  pub asks : ask_taken t ++ asks_left after ≡ asks_left v ++ ask_told t
+  pub looks : look_taken t ++ looks_left after ≡ looks_left v ++ look_told t
 
 -- it tells of nothing that a history counts
 pub record TellsNothing (t : Told) : Type 0 where
   pub likes : (page : ℕ) → like_told page t ≡ 0
   pub pages : (user : ℕ) → page_liked user t ≡ []
-  pub taken : ask_taken t ≡ []
-  pub told : ask_told t ≡ []
+  pub taken : look_taken t ≡ []
+  pub told : look_told t ≡ []
 
 pub IsTold-quiet : (v after : LiveView) (t : Told) → IsQuiet v after → TellsNothing t → IsTold v after t
 IsTold-quiet v after t q none = record {
@@ -56,8 +56,8 @@ IsTold-quiet v after t q none = record {
   tallies = λ page. let a = q.tallies page in let b = none.likes page in omega arith;
   last = λ user. ap (λ (x : UserTable). last_of x user) q.last
       ∙ sym (ap (last_or (last_of v.station.last user)) (none.pages user));
-  asks = ap (λ xs. xs ++ asks_left after) none.taken ∙ q.asks ∙ sym (append-nil (asks_left v))
-      ∙ ap (λ xs. asks_left v ++ xs) (sym none.told);
+  looks = ap (λ xs. xs ++ looks_left after) none.taken ∙ q.looks ∙ sym (append-nil (looks_left v))
+      ∙ ap (λ xs. looks_left v ++ xs) (sym none.told);
 }
 
 pub IsTold-after : (v now after : LiveView) (t : Told) → IsQuiet v now → IsTold now after t → IsTold v after t
@@ -65,18 +65,18 @@ IsTold-after v now after t q s = record {
   whole = s.whole;
   tallies = λ page. s.tallies page ∙ ap (λ n. n + like_told page t) (q.tallies page);
   last = λ user. s.last user ∙ ap (λ (x : UserTable). last_or (last_of x user) (page_liked user t)) q.last;
-  asks = s.asks ∙ ap (λ xs. xs ++ ask_told t) q.asks;
+  looks = s.looks ∙ ap (λ xs. xs ++ look_told t) q.looks;
 }
 
 pub IsQuiet-same : (v : LiveView) → IsWhole v → IsQuiet v v
-IsQuiet-same v whole = record { whole = whole; tallies = λ page. refl; last = refl; asks = refl }
+IsQuiet-same v whole = record { whole = whole; tallies = λ page. refl; last = refl; looks = refl }
 
 pub IsQuiet-both : (v now after : LiveView) → IsQuiet v now → IsQuiet now after → IsQuiet v after
 IsQuiet-both v now after a b = record {
   whole = b.whole;
   tallies = λ page. b.tallies page ∙ a.tallies page;
   last = b.last ∙ a.last;
-  asks = b.asks ∙ a.asks;
+  looks = b.looks ∙ a.looks;
 }
 
 -- a look leaves a worker that is there
@@ -116,45 +116,45 @@ empty-retire_works v after ending answer (calls.retires now joined a found is) =
 empty-retire_works v after ending answer (calls.stays split does) = empty-works v after ending answer does
 
 -- a found look is the one that waited
-asks-found : (fs : List Found) → map ask_of fs ≡ map ask_waiting (map (λ f. f.asked) fs)
-asks-found [] = refl
-asks-found (f ∷ fs) = ap (λ xs. ask_of f ∷ xs) (asks-found fs)
+looks-found : (fs : List Found) → map look_of fs ≡ map look_waiting (map (λ f. f.asked) fs)
+looks-found [] = refl
+looks-found (f ∷ fs) = ap (λ xs. look_of f ∷ xs) (looks-found fs)
 
-finds-asks : (v after : LiveView) → FindsAll v after → asks_left after ≡ asks_left v
-finds-asks v after f =
-    ap asks_left f.rest
-    ∙ append-nil (map ask_of (v.found ++ f.found))
-    ∙ map-append ask_of v.found f.found
-    ∙ ap (λ xs. map ask_of v.found ++ xs) (asks-found f.found ∙ ap (map ask_waiting) f.order)
+finds-looks : (v after : LiveView) → FindsAll v after → looks_left after ≡ looks_left v
+finds-looks v after f =
+    ap looks_left f.rest
+    ∙ append-nil (map look_of (v.found ++ f.found))
+    ∙ map-append look_of v.found f.found
+    ∙ ap (λ xs. map look_of v.found ++ xs) (looks-found f.found ∙ ap (map look_waiting) f.order)
 
-pub merged-asks : (v : LiveView) (s : StationView Asked) → s.held ≡ v.station.held → asks_left (with_station v s) ≡ asks_left v
-merged-asks v s held = ap (λ h. map ask_of v.found ++ map ask_waiting h.held) held
+pub merged-looks : (v : LiveView) (s : StationView Asked) → s.held ≡ v.station.held → looks_left (with_station v s) ≡ looks_left v
+merged-looks v s held = ap (λ h. map look_of v.found ++ map look_waiting h.held) held
 
-works-asks : (v after : LiveView) (ending : Bool) (answer : TurnAnswer)
+works-looks : (v after : LiveView) (ending : Bool) (answer : TurnAnswer)
     → Works v ending answer after
-    → asks_left after ≡ asks_left v
-works-asks v after ending answer (moves.runs_joined joined e a found) = finds-asks v after found
-works-asks v after ending answer (moves.acknowledges now joined e a found is) = ap asks_left is ∙ finds-asks v now found
-works-asks v after ending answer (moves.runs_split split e a is) = ap asks_left is
-works-asks v after ending answer (moves.reports s split e a merges is) =
-    ap asks_left is
-    ∙ merged-asks v s
+    → looks_left after ≡ looks_left v
+works-looks v after ending answer (moves.runs_joined joined e a found) = finds-looks v after found
+works-looks v after ending answer (moves.acknowledges now joined e a found is) = ap looks_left is ∙ finds-looks v now found
+works-looks v after ending answer (moves.runs_split split e a is) = ap looks_left is
+works-looks v after ending answer (moves.reports s split e a merges is) =
+    ap looks_left is
+    ∙ merged-looks v s
     (ap (λ (t : StationView Asked). t.held) merges.1.1 ∙ ap (λ (t : StationView Asked). t.held) merges.1.0.1.1)
 
-retire_works-asks : (v after : LiveView) (ending : Bool) (answer : TurnAnswer)
+retire_works-looks : (v after : LiveView) (ending : Bool) (answer : TurnAnswer)
     → RetireWorks v ending answer after
-    → asks_left after ≡ asks_left v
-retire_works-asks v after ending answer (calls.retires now joined a found is) =
-    ap asks_left is ∙ finds-asks v now found
-retire_works-asks v after ending answer (calls.stays split does) = works-asks v after ending answer does
+    → looks_left after ≡ looks_left v
+retire_works-looks v after ending answer (calls.retires now joined a found is) =
+    ap looks_left is ∙ finds-looks v now found
+retire_works-looks v after ending answer (calls.stays split does) = works-looks v after ending answer does
 
 -- what a look at the phase word makes a seat do leaves nothing waiting at a seat that is gone, and each look that was
 -- asked
 record IsFaithful (Runs : LiveView → Bool → TurnAnswer → LiveView → Type 0) : Type 0 where
   empty : (v after : LiveView) (ending : Bool) (answer : TurnAnswer) → Runs v ending answer after → IsEmpty after
-  asks : (v after : LiveView) (ending : Bool) (answer : TurnAnswer)
+  looks : (v after : LiveView) (ending : Bool) (answer : TurnAnswer)
       → Runs v ending answer after
-      → asks_left after ≡ asks_left v
+      → looks_left after ≡ looks_left v
 
 empty-by : (Runs : LiveView → Bool → TurnAnswer → LiveView → Type 0)
     → IsFaithful Runs
@@ -168,15 +168,15 @@ empty-by Runs does v after answer empty (moves.waits sight mask can w a is) =
 empty-by Runs does v after answer empty (moves.works sight mask number can w work) =
     does.empty (looked v sight mask number) after sight.ending answer work
 
-asks-by : (Runs : LiveView → Bool → TurnAnswer → LiveView → Type 0)
+looks-by : (Runs : LiveView → Bool → TurnAnswer → LiveView → Type 0)
     → IsFaithful Runs
     → (v after : LiveView) (answer : TurnAnswer)
     → MovesBy Runs v answer after
-    → asks_left after ≡ asks_left v
-asks-by Runs does v after answer (moves.is_gone gone a is) = ap asks_left is
-asks-by Runs does v after answer (moves.waits sight mask can w a is) = ap asks_left is
-asks-by Runs does v after answer (moves.works sight mask number can w work) =
-    does.asks (looked v sight mask number) after sight.ending answer work
+    → looks_left after ≡ looks_left v
+looks-by Runs does v after answer (moves.is_gone gone a is) = ap looks_left is
+looks-by Runs does v after answer (moves.waits sight mask can w a is) = ap looks_left is
+looks-by Runs does v after answer (moves.works sight mask number can w work) =
+    does.looks (looked v sight mask number) after sight.ending answer work
 
 -- what leaves all that, and each tally and last like, is quiet
 IsQuiet-by : (Runs : LiveView → Bool → TurnAnswer → LiveView → Type 0)
@@ -195,13 +195,13 @@ IsQuiet-by Runs does v after answer whole l m = record {
   };
   tallies = l.tallies;
   last = l.last;
-  asks = asks-by Runs does v after answer m;
+  looks = looks-by Runs does v after answer m;
 }
 
 -- phase work is quiet
 pub IsQuiet-moves : (v after : LiveView) (answer : TurnAnswer) → IsWhole v → Moves v answer after → IsQuiet v after
 IsQuiet-moves v after answer whole m =
-    IsQuiet-by Works (record { empty = empty-works; asks = works-asks }) v after answer whole
+    IsQuiet-by Works (record { empty = empty-works; looks = works-looks }) v after answer whole
     (Leaves-moves v after answer whole.sized m) m
 
 -- so is a retirement
@@ -210,7 +210,7 @@ pub IsQuiet-retires : (v after : LiveView) (answer : TurnAnswer)
     → RetireCase v answer after
     → IsQuiet v after
 IsQuiet-retires v after answer whole m =
-    IsQuiet-by RetireWorks (record { empty = empty-retire_works; asks = retire_works-asks }) v after answer whole
+    IsQuiet-by RetireWorks (record { empty = empty-retire_works; looks = retire_works-looks }) v after answer whole
     (Leaves-retires v after answer whole.sized m) m
 
 -- so is a return
@@ -230,7 +230,7 @@ IsQuiet-come_back v after answer whole (calls.runs s gone a back is) =
       };
       tallies = l.tallies;
       last = l.last;
-      asks = ap asks_left held;
+      looks = ap looks_left held;
     }
 IsQuiet-come_back v after answer whole (calls.between gone a is) = subst (IsQuiet v) (sym is) (IsQuiet-same v whole)
 IsQuiet-come_back v after answer whole (calls.there here m) = IsQuiet-moves v after answer whole m

@@ -1,5 +1,5 @@
 -- What deeds ask of a store, and what it replies.
-use Rattle.std.specs.Prelude.{◌≡◌, ℕ, List, map, slice_get, take, Option, Some}
+use Rattle.std.specs.Prelude.{◌≡◌, ℕ, List, map, slice_get, take, Some}
 use Rattle.like_promises.specs.declared.reply.Reply.TheVariants.{Seen}
 use Rattle.like_promises.specs.Store.{Ask, Store, after_all, like, look, reply}
 use Rattle.like_tables.specs.UserTable.{last_of}
@@ -23,20 +23,15 @@ Fits s user page counted = Unit {0}
 Fits s user page (showed seen) = reply s (look user page) ≡ Seen seen.last seen.count
 Fits s user page (glimpsed seen) = s.last user ≡ seen.last
 
--- this last like was shown, if one was
-abbrev pub ShowsLast : Option ℕ → Act → Type 0
-ShowsLast last counted = Unit {0}
-ShowsLast last (showed s) = s.last ≡ last
-ShowsLast last (glimpsed s) = s.last ≡ last
-
 -- the last likes of a seat's users, as a store
 abbrev pub store_of : LiveView → Store
 store_of v = record { count = λ page. 0; last = last_of v.station.last }
 
--- the law of last likes: whatever calls a fresh seat is asked, each of its deeds shows the last like that its user has in
--- the store after the deeds before it
+-- the law of last likes: whatever calls a fresh seat is asked, each of its deeds fits the store after the deeds before it,
+-- for some counts in that store
 abbrev pub DeedsShowLasts : Type 0
 DeedsShowLasts =
     (v after : LiveView) (told : List Told) (done : HasDone v told after) → IsUnused v
     → (i : ℕ) (d : Deed) → slice_get (deeds_of told v after done) i ≡ Some d
-    → ShowsLast ((store_after (store_of v) (take i (deeds_of told v after done))).last d.user) d.act
+    → let s = store_after (store_of v) (take i (deeds_of told v after done)) in
+    (count : ℕ → ℕ) × Fits (record s { count = count }) d.user d.page d.act

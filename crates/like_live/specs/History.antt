@@ -91,40 +91,40 @@ abbrev pub likes_told : ℕ → List Told → ℕ
 likes_told page told = sum_by (like_told page) told
 
 -- a look that was asked: its tag, its user and its page
-pub record Ask : Type 0 where
+pub record TaggedLook : Type 0 where
   pub tag : ℕ
   pub user : ℕ
   pub page : ℕ
 
 -- the look that a found one was
-abbrev pub ask_of : Found → Ask
-ask_of f = record { tag = f.asked.tag; user = f.asked.user; page = f.asked.page }
+abbrev pub look_of : Found → TaggedLook
+look_of f = record { tag = f.asked.tag; user = f.asked.user; page = f.asked.page }
 
 -- a look that was told `Waits`, if this is one
-abbrev pub ask_told : Told → List Ask
-ask_told (look user page tag Waits) = record { tag = tag; user = user; page = page } ∷ []
-ask_told told = []
+abbrev pub look_told : Told → List TaggedLook
+look_told (look user page tag Waits) = record { tag = tag; user = user; page = page } ∷ []
+look_told told = []
 
 -- a found look that was taken, if this is one
-abbrev pub ask_taken : Told → List Ask
-ask_taken (take_found (Some f)) = ask_of f ∷ []
-ask_taken told = []
+abbrev pub look_taken : Told → List TaggedLook
+look_taken (take_found (Some f)) = look_of f ∷ []
+look_taken told = []
 
 -- the looks that were told `Waits`, in order
-abbrev pub asks_told : List Told → List Ask
-asks_told told = flat_map ask_told told
+abbrev pub looks_told : List Told → List TaggedLook
+looks_told told = flat_map look_told told
 
 -- the found looks that were taken, in order
-abbrev pub asks_taken : List Told → List Ask
-asks_taken told = flat_map ask_taken told
+abbrev pub looks_taken : List Told → List TaggedLook
+looks_taken told = flat_map look_taken told
 
 -- a look that waits
-abbrev pub ask_waiting : Asked → Ask
-ask_waiting a = record { tag = a.tag; user = a.user; page = a.page }
+abbrev pub look_waiting : Asked → TaggedLook
+look_waiting a = record { tag = a.tag; user = a.user; page = a.page }
 
 -- the looks that were found and not taken yet, and those that wait, in order
-abbrev pub asks_left : LiveView → List Ask
-asks_left v = map ask_of v.found ++ map ask_waiting (waiting v)
+abbrev pub looks_left : LiveView → List TaggedLook
+looks_left v = map look_of v.found ++ map look_waiting (waiting v)
 
 -- a seat that has done nothing yet, whose users have the last likes of an opening
 pub record IsUnused (v : LiveView) : Type 0 where
@@ -142,7 +142,7 @@ pub record IsUnused (v : LiveView) : Type 0 where
 pub record HistoryIsCounted (v : LiveView) (told : List Told) (after : LiveView) : Type 0 where
   pub tallies : (page : ℕ) → tally after page ≡ likes_told page told
   pub last : (user : ℕ) → last_of after.station.last user ≡ last_or (last_of v.station.last user) (pages_liked user told)
-  pub taken : asks_taken told ++ asks_left after ≡ asks_told told
+  pub taken : looks_taken told ++ looks_left after ≡ looks_told told
 
 -- the law of histories: whatever calls a fresh seat is asked, they are counted. At a seat that is gone none waits, so
 -- once its found looks are taken too, none is left

@@ -70,8 +70,9 @@ pub fn last_counts_stay()
     ensures { LastCountsStay }
 {}
 
-/// Whatever calls a fresh seat is asked: each look and each glance shows the page of its user's last like before it, or
-/// that with which the seat was opened. A look that waited shows it as it is where it ran.
+/// Whatever calls a fresh seat is asked: each of its deeds fits the store after the deeds before it, for some counts in
+/// that store. So each look and each glance shows the page of its user's last like before it, or that with which the
+/// seat was opened. A look that waited shows it as it is where it ran.
 pub fn deeds_show_lasts()
     ensures { DeedsShowLasts }
 {}
