@@ -1,4 +1,4 @@
-use Rattle.std.proofs.Common.{◌∙◌, List, sym, subst}
+use Rattle.std.proofs.Common.{◌≤◌, ◌∙◌, List, sym, subst}
 use Rattle.std.specs.List.{AllPairs}
 use Rattle.like_promises.specs.declared.log.Took.{Took}
 use Rattle.like_roles.specs.worker.Work.{worker_at}
