@@ -414,7 +414,7 @@ uint32_t likes_client_retire(likes_client *client, uint32_t seat);
 uint32_t likes_client_come_back(likes_client *client, uint32_t seat);
 
 /* Runs requests one by one, as likes_seat_run does, and no other thread calls the seat meanwhile. It does none if the
- * first answer is LIKES_UNKNOWN_SEAT or LIKES_BUSY. At a seat that this client has locked, it is never LIKES_BUSY. */
+ * first answer is LIKES_UNKNOWN_SEAT or LIKES_BUSY. */
 size_t likes_client_run(likes_client *client, uint32_t seat, const likes_request *requests, size_t requests_len,
                         likes_answer *answers, size_t answers_len);
 
@@ -431,7 +431,7 @@ uint32_t likes_client_like_row(likes_client *client, uint32_t seat, const likes_
                                size_t *counted);
 
 /* Locks a seat for this client, until it is unlocked or the client is closed: LIKES_OK. Meanwhile other clients are
- * told LIKES_BUSY there, and this one's calls there take nothing. A seat that it has already stays so. */
+ * told LIKES_BUSY there. This one never is, and its calls there take nothing. A seat that it has already stays so. */
 uint32_t likes_client_lock(likes_client *client, uint32_t seat);
 
 /* Unlocks a seat: LIKES_OK, also if this client doesn't have it. */

@@ -1,7 +1,7 @@
 -- What a client's calls do, and what likes.h tells of them.
 use denote.RawPtr.{Ptr}
 use Rattle.std.specs.Arc.{arc_value}
-use Rattle.std.specs.Prelude.{◌≡◌, ◌≢◌, ℕ, ◌+◌, ◌<◌, ◌≤◌, Bool, true, false, drop, length, slice_set, List, [], ◌∷◌, Option, Some, None, Result, Ok, Err, ⊤}
+use Rattle.std.specs.Prelude.{◌≡◌, ◌≢◌, ℕ, ◌+◌, ◌<◌, ◌≤◌, Bool, true, false, IsFalse, drop, length, slice_set, List, [], ◌∷◌, Option, Some, None, Result, Ok, Err, ⊤}
 use Rattle.like_live.specs.declared.answer.TurnAnswer.{TurnAnswer}
 use Rattle.like_live.specs.declared.asked.Found.{Found}
 use Rattle.like_live.specs.declared.driver_answer.DriverAnswer.{DriverAnswer}
@@ -16,7 +16,7 @@ use Rattle.like_shared.specs.declared.deed.SeatDeed.TheVariants as deed
 use Rattle.like_shared.specs.declared.hub.Hub.{Hub}
 use Rattle.like_shared.specs.declared.seat_call.Busy.{Busy}
 use Rattle.like_shared.specs.Rows.{IsToldOf, deeds_of_likes}
-use Rattle.like_shared.specs.Shared.{AreLogged, HasSameLogs, IsDriverLogged, held_by, pages_of, seats_of}
+use Rattle.like_shared.specs.Shared.{AreLogged, HasSameLogs, IsDriverLogged, held_by, holds, pages_of, seats_of}
 use Rattle.like_c.specs.declared.boxed_client.BoxedClient.{BoxedClient}
 use Rattle.like_c.specs.declared.rows.AnswerRow.{AnswerRow}
 use Rattle.like_c.specs.declared.rows.FoundRow.{FoundRow}
@@ -39,7 +39,7 @@ pub record KeepsHub (b c : BoxedClient) : Type 0 where
   pub card : c.card ≡ b.card
 
 -- calls of a seat by a client, and what it is told: they were made, and its log has them; or another thread has the seat,
--- and its log is as before; or there is no such seat, and nothing is done
+-- which this client doesn't hold, and its log is as before; or there is no such seat, and nothing is done
 pub data Calls {A : Type 0} (seat : ℕ) (deeds : A → List SeatDeed) (told : Result A ℕ) (b c : BoxedClient) : Type 0
   where
     made : (answer : A) → seat < seats_by b → told ≡ Ok answer → AreLogged b.client seat deeds (Ok answer) c.client
@@ -55,12 +55,12 @@ pub data CallsDriver {A : Type 0} (one : A → DriverDeed) (told : Result A ℕ)
   driver_busy : (it : Busy) → told ≡ Err status.busy → IsDriverLogged b.client one (Err it) c.client → KeepsHub b c
       → CallsDriver one told b c
 
--- a seat is locked, and held from now on; or another thread has it; or there is no such seat
+-- a seat is locked, and held from now on; or another thread has it, and this client doesn't; or there is no such seat
 pub data Locks (seat : ℕ) (told : Result ⊤ ℕ) (b c : BoxedClient) : Type 0 where
   locks : seat < seats_by b → told ≡ Ok tt → held_by c.client ≡ slice_set (held_by b.client) seat true
       → HasSameLogs b.client c.client → KeepsHub b c → Locks seat told b c
-  lock_busy : seat < seats_by b → told ≡ Err status.busy → held_by c.client ≡ held_by b.client
-      → HasSameLogs b.client c.client → KeepsHub b c → Locks seat told b c
+  lock_busy : seat < seats_by b → told ≡ Err status.busy → IsFalse (holds b.client seat)
+      → held_by c.client ≡ held_by b.client → HasSameLogs b.client c.client → KeepsHub b c → Locks seat told b c
   lock_none : seats_by b ≤ seat → told ≡ Err status.unknown_seat → c ≡ b → Locks seat told b c
 
 -- a seat is unlocked, and not held from now on; or there is no such seat

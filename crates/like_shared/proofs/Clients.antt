@@ -1,8 +1,9 @@
 -- A client after calls of a seat.
-use Rattle.std.proofs.Common.{◌≡◌, ℕ, ◌<◌, Bool, List, [], ◌++◌, get_or, length, map, set, Result, Ok, Err, refl, sym, ap, ◌∙◌, arith}
-use Rattle.std.specs.Prelude.{MatchResult}
+use Rattle.std.proofs.Common.{◌≡◌, ℕ, ◌<◌, Bool, false, List, [], ◌++◌, get_or, length, map, set, Result, Ok, Err, refl, sym, ap, ◌∙◌, arith}
+use Rattle.std.specs.Prelude.{IfErr, IsFalse, MatchResult}
 use Rattle.std.specs.Vec.{with_item}
 use Rattle.std.proofs.lemmas.List.{map-set}
+use Rattle.std.proofs.lemmas.Result.{IfErr-weaker}
 use Rattle.std.proofs.lemmas.Slice.Zip.{AllZip-long}
 use Rattle.told_lock.specs.declared.lock.Lock.{Lock}
 use Rattle.like_live.specs.LiveView.{LiveView}
@@ -13,7 +14,7 @@ use Rattle.like_shared.specs.declared.seat_call.Busy.{Busy}
 use Rattle.like_shared.specs.declared.seat_call.SeatPass.{SeatPass}
 use Rattle.like_shared.specs.declared.service.SharedService.{SharedService}
 use Rattle.like_shared.specs.Passes.{IsReady, log_at}
-use Rattle.like_shared.specs.Shared.{AreLogged, HasSameLogs, IsClient, held_by, seats_of, with_deeds}
+use Rattle.like_shared.specs.Shared.{AreLogged, HasSameLogs, IsClient, held_by, holds, seats_of, with_deeds}
 use Rattle.like_shared.proofs.Places.{map-alike, map-read, zip-read, zip-set}
 
 -- the log at the seat has the calls behind it; if the seat was busy, all logs are as before
@@ -40,6 +41,13 @@ module _ (s : SharedService) (c : Client) (seat : ℕ) (is : IsClient s c) (less
       → p ≡ get_or c.seats.items seat p → IsReady lock p
   pass-ready lock p here at = zip-read IsReady s.seats.items c.seats.items seat lock p is.seats less here at
 
+  -- if the pass didn't hold a busy seat, nor did the client
+  pub free-before : {A : Type 0} (p : SeatPass) (result : Result A Busy) → p ≡ get_or c.seats.items seat p
+      → IfErr result (λ busy. IsFalse p.is_held) → IfErr result (λ busy. IsFalse (holds c seat))
+  free-before p result at free =
+      IfErr-weaker result (λ busy. IsFalse p.is_held) (λ busy. IsFalse (holds c seat))
+      (λ busy is. map-read (λ (x : SeatPass). x.is_held) c.seats.items seat p false pass-there at ∙ is) free
+
   -- the client with another pass of the seat
   abbrev pub with_pass : SeatPass → Client
   with_pass q = record c { seats = with_item c.seats seat q }
@@ -61,9 +69,11 @@ module _ (s : SharedService) (c : Client) (seat : ℕ) (is : IsClient s c) (less
     -- its log has what was done, and it holds what it held
     pub logged-after : {A : Type 0} (result : Result A Busy) (deeds : A → List SeatDeed)
         → MatchResult result (λ told. log_at q ≡ log_at p ++ deeds told) (λ busy. log_at q ≡ log_at p)
-        → q.is_held ≡ p.is_held → AreLogged c seat deeds result (with_pass q)
-    logged-after result deeds log same = record {
+        → IfErr result (λ busy. IsFalse p.is_held) → q.is_held ≡ p.is_held
+        → AreLogged c seat deeds result (with_pass q)
+    logged-after result deeds log free same = record {
       seats = logs-after result deeds c.seats.items seat p q pass-there at log;
+      free = free-before p result at free;
       driver = refl;
       held = held-same same;
     }

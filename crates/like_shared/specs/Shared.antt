@@ -1,5 +1,5 @@
 -- A shared service, its keeper and its clients.
-use Rattle.std.specs.Prelude.{◌≡◌, ℕ, ◌+◌, ◌^◌, ◌<◌, ◌≤◌, All, Bool, List, [], ◌∷◌, ◌++◌, length, map, MatchResult, Result, slice_index_or, slice_set, vec_capacity}
+use Rattle.std.specs.Prelude.{◌≡◌, ℕ, ◌+◌, ◌^◌, ◌<◌, ◌≤◌, All, Bool, false, IfErr, IsFalse, List, [], ◌∷◌, ◌++◌, length, map, MatchResult, Result, slice_index_or, slice_set, vec_capacity}
 use Rattle.std.specs.List.{AllZip}
 use Rattle.told_lock.specs.Deeds.{Named, named}
 use Rattle.told_lock.specs.Rights.{IsIdle, IsKeeper, first_of, log_of, name_of, told_of}
@@ -65,16 +65,21 @@ driver_log c = log_of c.driver
 abbrev pub held_by : Client → List Bool
 held_by c = map (λ p. p.is_held) c.seats.items
 
+-- whether it holds this one
+abbrev pub holds : Client → ℕ → Bool
+holds c seat = slice_index_or (held_by c) seat false
+
 -- the logs, with these deeds behind the one at this seat
 abbrev pub with_deeds : List (List SeatDeed) → ℕ → List SeatDeed → List (List SeatDeed)
 with_deeds logs seat ds = slice_set logs seat (slice_index_or logs seat [] ++ ds)
 
--- calls of a seat are in a client's log, with what they were told; or the seat was busy, and the log is as before. It
--- holds the seats that it held
+-- calls of a seat are in a client's log, with what they were told; or the seat was busy, which this client didn't hold,
+-- and the log is as before. It holds the seats that it held
 pub record AreLogged {A : Type 0} (before : Client) (seat : ℕ) (deeds : A → List SeatDeed) (result : Result A Busy)
     (after : Client) : Type 0 where
   pub seats : MatchResult result (λ told. seat_logs after ≡ with_deeds (seat_logs before) seat (deeds told))
       (λ busy. seat_logs after ≡ seat_logs before)
+  pub free : IfErr result (λ busy. IsFalse (holds before seat))
   pub driver : driver_log after ≡ driver_log before
   pub held : held_by after ≡ held_by before
 

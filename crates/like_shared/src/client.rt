@@ -1,10 +1,10 @@
 //! A thread's client of a shared service, and its calls.
-ghost use Rattle.std.specs.Prelude.{◌≡◌, ◌+◌, ◌<◌, ◌≤◌, IfNone, IfOk, IsFalse, MatchResult, Ok, drop, false, length, slice_set, true};
+ghost use Rattle.std.specs.Prelude.{◌≡◌, ◌+◌, ◌<◌, ◌≤◌, IfErr, IfNone, IfOk, IsFalse, MatchResult, Ok, drop, false, length, slice_set, true};
 ghost use Rattle.like_requests.specs.Verdict.{home};
 ghost use Rattle.like_shared.specs.declared.deed.DriverDeed.TheVariants as driver_deed;
 ghost use Rattle.like_shared.specs.declared.deed.SeatDeed.TheVariants as deed;
 ghost use Rattle.like_shared.specs.Rows.{AreAnswered, IsToldOf, deeds_of_likes, deeds_of_rows};
-ghost use Rattle.like_shared.specs.Shared.{AreLogged, HasSameLogs, IsClient, IsDriverLogged, IsLogged, held_by, pages_of, seats_of};
+ghost use Rattle.like_shared.specs.Shared.{AreLogged, HasSameLogs, IsClient, IsDriverLogged, IsLogged, held_by, holds, pages_of, seats_of};
 
 use crate::driver::{DriverCall, DriverPass, try_drive};
 use crate::driver_calls::{
@@ -204,6 +204,7 @@ impl Client {
         ensures client { IsClient service.now self.new }
         ensures held { MatchResult result (λ _. held_by self.new ≡ slice_set (held_by self.old) seat true)
             (λ _. held_by self.new ≡ held_by self.old) }
+        ensures free { IfErr result (λ _. IsFalse (holds self.old seat)) }
         ensures logs { HasSameLogs self.old self.new }
     {
         try_lock(&service.seats[seat], &mut self.seats[seat])

@@ -1,5 +1,5 @@
 //! A call of a seat behind its lock, if no other thread has it.
-ghost use Rattle.std.specs.Prelude.{◌≡◌, ◌++◌, [], ◌∷◌, MatchResult};
+ghost use Rattle.std.specs.Prelude.{◌≡◌, ◌++◌, [], ◌∷◌, IfErr, IsFalse, MatchResult};
 ghost use Rattle.told_lock.specs.Rights.{IsHolding, IsIdle, log_of, name_of};
 ghost use Rattle.like_shared.specs.declared.deed.SeatDeed.{SeatDeed};
 ghost use Rattle.like_shared.specs.Deeds.{SeatDoes};
@@ -55,6 +55,7 @@ pub fn try_call<Q: SeatCall>(
     ensures name { name_of pass.new.pass ≡ name_of pass.old.pass }
     ensures log { MatchResult result (λ answer. log_at pass.new ≡ log_at pass.old ++ Q.deed call.now answer ∷ [])
         (λ _. log_at pass.new ≡ log_at pass.old) }
+    ensures free { IfErr result (λ _. IsFalse pass.old.is_held) }
 {
     if pass.is_held {
         return Ok(call_held(lock, &mut pass.pass, call));

@@ -1,5 +1,5 @@
 //! A seat is locked and unlocked by a thread.
-ghost use Rattle.std.specs.Prelude.{◌≡◌, false, true, MatchResult};
+ghost use Rattle.std.specs.Prelude.{◌≡◌, false, true, IfErr, IsFalse, MatchResult};
 ghost use Rattle.told_lock.specs.Rights.{IsHolding, IsIdle, log_of, name_of};
 ghost use Rattle.like_shared.specs.Passes.{IsReady, log_at};
 
@@ -11,6 +11,7 @@ pub fn try_lock(lock: &SeatLock, pass: &mut SeatPass) -> Result<(), Busy>
     requires { IsReady lock.now pass.old }
     ensures ready { IsReady lock.now pass.new }
     ensures held { MatchResult result (λ _. pass.new.is_held ≡ true) (λ _. pass.new.is_held ≡ pass.old.is_held) }
+    ensures free { IfErr result (λ _. IsFalse pass.old.is_held) }
     ensures name { name_of pass.new.pass ≡ name_of pass.old.pass }
     ensures log { log_at pass.new ≡ log_at pass.old }
 {

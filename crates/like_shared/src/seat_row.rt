@@ -1,5 +1,5 @@
 //! Calls of a seat that are made under one taking of its lock.
-ghost use Rattle.std.specs.Prelude.{◌≡◌, ◌++◌, List, MatchResult};
+ghost use Rattle.std.specs.Prelude.{◌≡◌, ◌++◌, IfErr, IsFalse, List, MatchResult};
 ghost use Rattle.told_lock.specs.Deeds.{HasRun};
 ghost use Rattle.told_lock.specs.Rights.{IsHolding, IsIdle, log_of, name_of};
 ghost use Rattle.like_shared.specs.declared.deed.SeatDeed.{SeatDeed};
@@ -48,6 +48,7 @@ pub fn try_row<Q: SeatRow>(
     ensures log { MatchResult result
         (λ answer. log_at pass.new ≡ log_at pass.old ++ Q.deeds row.now answer places.new)
         (λ _. log_at pass.new ≡ log_at pass.old) }
+    ensures free { IfErr result (λ _. IsFalse pass.old.is_held) }
     ensures places { MatchResult result (λ answer. Q.writes row.now answer places.old places.new)
         (λ _. places.new ≡ places.old) }
 {

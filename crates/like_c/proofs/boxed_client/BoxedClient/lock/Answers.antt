@@ -17,4 +17,4 @@ returns-in-Ok c = locks
 pub returns-in-Err : goal.returns-in-Err
 returns-in-Err c = lock_busy
     (omega (arith, c.if-seat-seat_count.false, c.seat_count.ensures ∙ ap seats_of (c.service.ensures ∙ ap (λ (h : Hub). h.service) c.deref.ensures)))
-    refl c.in-Err.ensures.held c.in-Err.ensures.logs (record { hub = refl; card = refl })
+    refl c.in-Err.ensures.free c.in-Err.ensures.held c.in-Err.ensures.logs (record { hub = refl; card = refl })

@@ -1,6 +1,6 @@
 use Rattle.std.proofs.Common.{arith, true}
 use Rattle.std.proofs.lemmas.Result.{MatchResult-weaker}
-use Rattle.like_shared.proofs.Clients.{client-after, held-same, held-set, logs-same, pass-ready, pass-there}
+use Rattle.like_shared.proofs.Clients.{client-after, free-before, held-same, held-set, logs-same, pass-ready, pass-there}
 use Rattle.like_shared.proofs.client.Client.lock.Goals as goal
 
 pub index_mut-requires : goal.index_mut-requires
@@ -17,6 +17,11 @@ pub returns-clause-client : goal.returns-clause-client
 returns-clause-client c =
     client-after c.args.service.now c.args.self.now c.args.seat c.requires.client c.requires.seat c.index.result.now
     c.try_lock.new.pass c.index.ensures c.try_lock.ensures.ready
+
+pub returns-clause-free : goal.returns-clause-free
+returns-clause-free c =
+    free-before c.args.service.now c.args.self.now c.args.seat c.requires.client c.requires.seat c.index_mut.result.now
+    c.try_lock.result c.index_mut.ensures.value c.try_lock.ensures.free
 
 pub returns-clause-logs : goal.returns-clause-logs
 returns-clause-logs c =
