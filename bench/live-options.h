@@ -77,7 +77,7 @@ static bool takes(options *to, const char *name, const char *value) {
     return true;
 }
 
-/* Reads the options. The defaults are those of docs/PERFORMANCE.md. */
+/* Reads the options. The defaults are those that bench/run live -h tells. */
 static options options_in(int count, char **words, const char *kinds) {
     options made = {.pages = 1000, .users = 1000000, .times = 5, .milliseconds = 200};
     made.threads = words_in("1 2 4");
