@@ -266,7 +266,10 @@ class Table(reading.Log):
         for at in reading.places(numbers, 0):
             if row := piece.row(at):
                 self.leave_out_row(first + at, row, piece.header)
-        return range(first, first + len(numbers)), numbers, texts_of(users), texts_of(*times) if times else [], piece
+        return range(first, first + len(numbers)), numbers, users, texts_of(*times) if times else [], piece
+
+    def joined(self, users):
+        return text_of(b"\0".join(users))
 
     def page_of(self, page):
         """A page, without its query if that is taken off."""
