@@ -112,7 +112,7 @@ class Log:
     def told(self):
         """How several logs were taken, how many lines are left out, why, and the first of them; and what is idle."""
         if self.order != sorted(self.order):
-            names = [self.names[place] for place in self.order]
+            names = [rows.called(self.names[place]) for place in self.order]
             names[LISTED:-1] = [".."] * (len(names) > LISTED + 1)
             yield f"taken in the order of their first times: {', '.join(names)}"
         if len(self.names) > 1 and not self.has_times:
