@@ -22,10 +22,15 @@ FIELDS = "first others numbers users times periods end least place new name read
 
 
 class Batch(collections.namedtuple("Batch", FIELDS)):
-    """Requests as a log has them in a batch; op and page of each number that is new; the name of the log that they are
-    in, and how much of it was read, in words; and which process read them, whose numbers they have."""
+    """Requests as a log has them in a batch, with their users as one text; op and page of each number that is new; the
+    name of the log that they are in, and how much of it was read, in words; and which process read them, whose numbers
+    they have."""
 
     __slots__ = ()
+
+    def names(self):
+        """The users of the requests."""
+        return self.users.split("\0") if self.numbers else []
 
     def line(self, at):
         """The line of the request at a place."""
@@ -50,10 +55,10 @@ class Numbers(dict):
 def batches(log):
     """The requests of a log."""
     numbers = Numbers()
-    for first, others, found, *columns in log.batches():
+    for first, others, found, users, *columns in log.batches():
         numbers.new = []
-        found = list(map(numbers.__getitem__, found))
-        yield first, others, found, *columns, list(map(log.whats.__getitem__, numbers.new)), log.name, log.read()
+        found, users = list(map(numbers.__getitem__, found)), log.joined(users)
+        yield first, others, found, users, *columns, list(map(log.whats.__getitem__, numbers.new)), log.name, log.read()
 
 
 def send(log, out):

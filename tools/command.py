@@ -25,6 +25,9 @@ VERSION = f"{os.path.dirname(os.path.realpath(__file__))}/version"
 # The program, relative to this folder: in the repository, and in a release.
 PROGRAMS = ["../likes", "../../../bin/likes"]
 
+# What the first of these runs, a script that looks for newer sources each time.
+BUILT = "../crates/like_driver/out/like_driver"
+
 # The signals at which a tool cleans up before it ends, and the exit status at a closed pipe, as for that signal.
 SIGNALS = (signal.SIGHUP, signal.SIGINT, signal.SIGTERM)
 PIPE = 128 + signal.SIGPIPE
@@ -74,11 +77,14 @@ def beside(tool):
     return shlex.quote(path if os.access(path, os.X_OK) else f"{os.path.dirname(os.path.realpath(__file__))}/{tool}")
 
 
+def found(place):
+    """The program at a place relative to this folder, or none."""
+    return shutil.which(os.path.normpath(f"{os.path.dirname(os.path.realpath(__file__))}/{place}"))
+
+
 def program():
     """The program beside the tools, or on the path, or none."""
-    here = os.path.dirname(os.path.realpath(__file__))
-    found = (shutil.which(os.path.normpath(f"{here}/{place}")) for place in PROGRAMS)
-    return next(filter(None, found), shutil.which("likes"))
+    return next(filter(None, map(found, PROGRAMS)), shutil.which("likes"))
 
 
 class Parser(argparse.ArgumentParser):

@@ -18,6 +18,10 @@ PAGES, FILES, REQUESTS, USERS, NAME = 1024, 64, 1000000, 1000000, 64
 # How many requests are dealt before they are written, and the most that may come to one file before the next time.
 WRITTEN, BETWEEN = 50000, 200000
 
+# How the rows of requests begin, by their op.
+FRONTS = {"like": "like,", "look": "look,"}
+LIKE = FRONTS["like"]
+
 # What a file says which part has a user's last like.
 LAST = "number,part"
 
@@ -43,14 +47,14 @@ def is_stand_in(name):
 
 
 class Page:
-    """A page: its name as CSV, its initial count, its mark, and its likes in the log. Its requests go into the lists of
-    its part."""
+    """A page: its name as CSV, its initial count, its mark, how the rows of its requests end, and its likes in the log.
+    Its requests go into the lists of its part."""
 
-    __slots__ = "text", "count", "split", "likes", "part", "texts"
+    __slots__ = "text", "count", "split", "end", "likes", "part", "texts"
 
     def __init__(self, name, count="0", split="no"):
         self.text, self.count, self.split = rows.field(name), count, split
-        self.likes = 0
+        self.end, self.likes = f",{self.text}\n", 0
 
 
 class Part:
@@ -190,7 +194,7 @@ class Dealt:
         """Gives each request to the file of its user, and writes it."""
         gc.disable()  # there are no cycles here
         merged = merge.Merge() if self.log.is_merged() else None
-        whats_of = collections.defaultdict(list)  # by the process that read them: op and page, by number
+        whats_of = collections.defaultdict(list)  # by the process that read them: front and page, by number
         with ahead.reading(self.log) as batches:
             for batch in batches:
                 self.read, whats = batch.read, whats_of[batch.reader]
@@ -205,7 +209,7 @@ class Dealt:
 
     def numbers_of(self, batch):
         """The numbers of a batch's users."""
-        numbers = list(map(self.users.__getitem__, batch.users))
+        numbers = list(map(self.users.__getitem__, batch.names()))
         while len(self.users) > self.crowds * USERS:
             if not self.are_joined:
                 why = named(f"more than {USERS} users: take tools/log, which makes several runs")
@@ -214,7 +218,7 @@ class Dealt:
         return numbers
 
     def take(self, columns):
-        """Takes requests in their order: op and page, the user's number, and if they are counted by it the period."""
+        """Takes requests in their order: front and page, the user's number, and the period if it is counted by."""
         for begin in range(0, len(columns[0]), WRITTEN):
             self.take_some(*(column[begin : begin + WRITTEN] for column in columns))
             if self.count >= WRITTEN:
@@ -227,22 +231,22 @@ class Dealt:
             numbers = [user % USERS for user in users]
         else:
             homes, numbers = [user % files for user in users], users
-        for (op, page), user, home, number in zip(whats, users, homes, numbers):
-            page.texts[home].append(f"{op},{number},{page.text}\n")
-            if op == "like":
+        for (front, page), user, home, number in zip(whats, users, homes, numbers):
+            page.texts[home].append(f"{front}{number}{page.end}")
+            if front == LIKE:
                 page.likes += 1
                 last_part[user] = page.part + 1
         self.count += len(users)
-        self.likes_by.update((period, page) for (op, page), period in zip(whats, periods) if op == "like")
+        self.likes_by.update((period, page) for (front, page), period in zip(whats, periods) if front == LIKE)
 
     def new_of(self, batch, first):
-        """Op and page of what is new in a batch, whose numbers begin with the first."""
+        """Front and page of what is new in a batch, whose numbers begin with the first."""
         for number, (op, name) in enumerate(batch.new, first):
-            yield op, self.pages.get(name) or self.add(name, batch, number)
+            yield FRONTS[op], self.pages.get(name) or self.add(name, batch, number)
 
     def line_past(self, batch):
         """The line of the first user who is too many."""
-        return batch.line(next(at for at, user in enumerate(batch.users) if self.users[user] >= USERS))
+        return batch.line(next(at for at, user in enumerate(batch.names()) if self.users[user] >= USERS))
 
     def write_requests(self):
         self.count = 0

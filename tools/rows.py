@@ -232,8 +232,8 @@ def records_in(file, name):
 
 
 def plain_in(file, name):
-    """The records of an open CSV file, without their lines. Up to the first block with a quote or an odd end of a line, lines
-    are split at commas, which takes two thirds of a reader's time."""
+    """The records of an open CSV file, without their lines. Up to the first block with a quote or an odd end of a line,
+    lines are split at commas, which takes two thirds of a reader's time."""
     text = io.TextIOWrapper(file, newline="", encoding="utf-8-sig", errors="surrogateescape")
     split, left, lines = operator.methodcaller("split", ","), "", 0
     while block := text.read(BLOCK):

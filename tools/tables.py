@@ -15,6 +15,7 @@ NAMED = {"tab": "\t", "\\t": "\t"}
 
 # Why rows are left out.
 FEWER, MORE, SHORT = "fewer fields than the header", "more fields than the header", "fewer fields than --columns"
+LONG = f"a field of more than {rows.LONGEST} characters"
 
 # A NUL as bytes of a log, and what stands in its place.
 NUL = b"\0", reading.NUL.encode()
@@ -51,6 +52,10 @@ class Header:
 
     def exceeds(self, row):
         return bool(self.names) and len(row) > len(self.names)
+
+    def takes(self, row):
+        """Whether a row has as many fields as it should, and none that is too long."""
+        return not (self.lacks(row) or self.exceeds(row)) and max(map(len, row)) <= rows.LONGEST
 
     def odd(self, lines):
         """The places of lines that have quotes, too few fields or too many: without the rest, they aren't a gap. All
@@ -126,14 +131,15 @@ class Rows:
         return text_of(self.lines[at]).split(self.header.delimiter)
 
     def columns(self):
-        """The columns that are needed, as bytes. In rows with too few fields or too many they are empty."""
+        """The columns that are needed, as bytes. In rows with too few fields or too many, or with one that is too long,
+        they are empty."""
         header, delimiter, lines = self.header, self.header.delimiter.encode(), self.lines.copy()
         for at in self.others:
             lines[at] = header.gap
         fields = delimiter.join(lines).split(delimiter)
         columns = [fields[place :: header.width] for place in header.places]
         for at, row in self.others.items():
-            if not header.lacks(row) and not header.exceeds(row):
+            if header.takes(row):
                 for column, place in zip(columns, header.places):
                     column[at] = row[place].encode()
         return columns
@@ -242,8 +248,8 @@ class Table(reading.Log):
             raise self.fault(first + at, rows.why(error)) from None
 
     def others_in(self, lines, first, header):
-        """The rows of a piece that aren't plain lines, by their places: records that have quotes, or that may have a
-        field that is too long, and rows with too few fields or too many."""
+        """The rows of a piece that aren't plain lines, by their places: records that have quotes, and rows with too few
+        fields, too many, or one that may be too long."""
         found, begin = {}, 0
         while begin < len(lines.piece):  # and those that a record adds
             bare = lines.bare()[begin:]
@@ -251,7 +257,7 @@ class Table(reading.Log):
                 at, line = begin + place, bare[place]
                 if at in found:
                     continue  # within a record
-                if b'"' in line or is_long(line):
+                if b'"' in line:
                     found[at] = self.record_in(lines, first, at, header.delimiter)
                     found.update(dict.fromkeys(range(at + 1, lines.at), []))
                 else:
@@ -266,7 +272,10 @@ class Table(reading.Log):
         for at in reading.places(numbers, 0):
             if row := piece.row(at):
                 self.leave_out_row(first + at, row, piece.header)
-        return range(first, first + len(numbers)), numbers, texts_of(users), texts_of(*times) if times else [], piece
+        return range(first, first + len(numbers)), numbers, users, texts_of(*times) if times else [], piece
+
+    def joined(self, users):
+        return text_of(b"\0".join(users))
 
     def page_of(self, page):
         """A page, without its query if that is taken off."""
@@ -291,13 +300,15 @@ class Table(reading.Log):
             return MORE
         if header.lacks(row):
             return FEWER if header.names else SHORT
-        return self.no_page if row[header.places[0]] in self.ops else self.wrong_op
+        if row[header.places[0]] not in self.ops:
+            return self.wrong_op
+        return LONG if row[header.places[2]] else self.no_page
 
     def fault_of(self, why, row, text, header):
         """What is wrong with a row that isn't left out."""
         if why == self.wrong_op:
             return why.replace(" is ", f" is {shown(row[header.places[0]])}, ", 1)
-        if why == self.no_page:
+        if why in (self.no_page, LONG):
             return f"{why}: {shown(text)}"
         return f"{len(row)} fields, not {len(header.names) or header.least}: {shown(text)}"
 

@@ -243,6 +243,16 @@ CASES = {
         {"ann": "b"},
         [f"left out 1, {LONG}: the first is line 3, {NULS}", "fewer fields than the header: the first is line 5, "],
     ),
+    "long fields": (
+        {
+            "a.csv": "op,user,page\nlike,ann,a\n" + "\0" * 500000 + "like,ann,b\nlike,ann," + "c" * 131073
+            + '\nlook,bob,"' + "d" * 131072 + '"\n'
+        },
+        "",
+        {"a": 1, "d" * 131072: 0},
+        {"ann": "a"},
+        ["left out 1, op is not like or look: the first is line 3, '%00%00", "131072 characters: the first is line 4, 'like"],
+    ),
     "bytes": (
         {"a.log": line("x - ann", "%ff%C3%A4") + line("x - b\udcfe", "\udcff") + line("x - ann", "\\xff")},
         WEB,
@@ -527,6 +537,14 @@ def try_packed(folder):
             yield f"{name} logs: {said.out[-500:]!r}"
 
 
+def try_standard_input(folder):
+    """What is wrong with how standard input is named among several logs."""
+    asked(folder, {"a.log": line("x - ann", "new", 1), "b.log": line("x - ann")}, WEB)
+    ended = pages.shell(f"tools/log - b.log {WEB} --into of-input < a.log", folder)
+    if ended.status != 0 or "first times: b.log, standard input\n" not in ended.out.decode():
+        yield f"standard input: {ended.out[-500:]!r}"
+
+
 def try_many_users(folder):
     """What is wrong with a log of more than a million users, of whom some come again."""
     users = [f"user {number}" for number in range(1_100_000)]
@@ -554,5 +572,5 @@ def try_reports(folder):
 
 def try_all(folder):
     """What is wrong with all of these."""
-    tries = (try_cases, try_periods, try_packed, try_many_users, try_reports)
+    tries = (try_cases, try_periods, try_packed, try_standard_input, try_many_users, try_reports)
     return [wrong for attempt in tries for wrong in attempt(folder)]
