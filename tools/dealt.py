@@ -8,6 +8,7 @@ import os
 import re
 
 import ahead
+import formats
 import merge
 import rows
 from command import Fault, named, shown, write
@@ -71,7 +72,7 @@ class Part:
         """Adds files, of more users."""
         for place in range(len(self.files), len(self.files) + files):
             self.files.append(f"{self.folder}/requests-{place:02}.csv")
-            self.texts.append([f"{rows.REQUESTS}\n"])
+            self.texts.append([f"{formats.REQUESTS}\n"])
             self.counts.append(-1)
 
     def add(self, page):
@@ -94,7 +95,7 @@ class Part:
 
     def write_pages(self):
         with write(self.pages_file) as file:
-            file.write(f"{rows.PAGES}\n")
+            file.write(f"{formats.PAGES}\n")
             file.writelines(f"{page.text},{page.count},{page.split}\n" for page in self.pages)
 
 
@@ -290,12 +291,12 @@ class Dealt:
 
     def write_names(self):
         """Writes the files that put names back into reports."""
-        self.write_numbered("users.csv", rows.USERS, ((number, user) for user, number in self.users.items()))
+        self.write_numbered("users.csv", formats.USERS, ((number, user) for user, number in self.users.items()))
         if self.has_parts:
             lasts = ((user, str(part - 1)) for user, part in enumerate(self.last_part) if part)
             self.write_numbered("last.csv", LAST, lasts)
         if self.takes_any_name():
-            self.write_numbered("names.csv", rows.NAMES, self.stand_ins.items())
+            self.write_numbered("names.csv", formats.NAMES, self.stand_ins.items())
 
     def write_numbered(self, name, header, pairs):
         with write(f"{self.folder}/{name}") as file:
@@ -362,10 +363,10 @@ def earlier_pages(name):
     found = rows.records(name)
     header = ",".join(next(found, (1, []))[1])
     found.close()
-    if header == rows.REPORT:
-        found = [(row[5], row[6]) for row in rows.rows_of(name, rows.REPORT) if row[0] == "page"]
+    if header == formats.REPORT:
+        found = [(row[5], row[6]) for row in rows.rows_of(name, formats.REPORT) if row[0] == "page"]
     else:
-        found = rows.rows_of(name, rows.PAGES)
+        found = rows.rows_of(name, formats.PAGES)
     pages = {row[0]: Page(*row) for row in found}
     if not pages:
         raise Fault(f"{name}: no page")

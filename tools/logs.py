@@ -4,7 +4,7 @@ import argparse
 import os
 import stat
 
-import rows
+import formats
 import stamps
 import tables
 import web
@@ -106,7 +106,7 @@ def log_of(words, parser):
             parser.error(str(error))
         take_names(words, parser)
         return (web.Combined if words.combined else web.Json)(words, patterns)
-    columns = (words.columns or rows.REQUESTS).split(",")
+    columns = (words.columns or formats.REQUESTS).split(",")
     if len(columns) != 3:
         parser.error(f"--columns takes three names, not {shown(words.columns)}")
     numbered = [*columns, *filter(None, [words.time])]

@@ -14,14 +14,8 @@ import sys
 import tempfile
 import zlib
 
+import formats
 from command import Fault, shown, write
-
-PAGES = "name,count,split"
-REQUESTS = "op,user,page"
-REPORT = "row,id,number,phase,answer,page,count"
-USERS = "number,user"
-NAMES = "name,page"
-OPTIONS = "option,value"
 
 # What the name of the file with a run's options has behind that of its report.
 BESIDE = ".options"
@@ -319,7 +313,7 @@ def write_options(report, options, pages, *requests):
     """Writes what a run was given into a file beside its report."""
     names = [("pages", pages), *(("requests", name) for name in requests)]
     with write(report + BESIDE) as file:
-        file.write(f"{OPTIONS}\n")
+        file.write(f"{formats.OPTIONS}\n")
         file.writelines(f"{option},{number}\n" for option, number in options.items())
         file.writelines(f"{option},{field(os.path.basename(name))}\n" for option, name in names)
 
@@ -328,7 +322,7 @@ def options_of(report):
     """What a run was given, by the file beside its report if there is one: numbers by option, and files."""
     options, names = {}, []
     if os.path.isfile(report + BESIDE):
-        for line, (option, value) in lines_of(report + BESIDE, OPTIONS):
+        for line, (option, value) in lines_of(report + BESIDE, formats.OPTIONS):
             if option in ("pages", "requests"):
                 names.append(os.path.join(os.path.dirname(report), value))
             else:

@@ -17,8 +17,12 @@ import time
 
 ROOT = os.path.realpath(f"{__file__}/../../..")
 
-# The header of a report.
-HEADER = "row,id,number,phase,answer,page,count"
+sys.path.append(f"{ROOT}/tools")
+
+import formats
+
+# The header of a report, and the answers that refuse a request.
+HEADER, REFUSALS = formats.REPORT, formats.REFUSALS
 
 # The fault lines of too little memory and too few threads.
 MEMORY = b"likes: out of memory\n"
