@@ -11,9 +11,10 @@ uint32_t likes_service_like(likes_service *service, uint32_t user, uint32_t page
     if (status != LIKES_OK)
         return status;
     inner_fetch(seat->lasts, service->inverse, user);
-    do
+    do {
         status = likes_client_like(&member->client, seat->number, user, page);
-    while (inner_again(member, seat, INNER_NEVER, &status));
+        status = inner_told(member, seat, INNER_NEVER, status);
+    } while (status == INNER_AGAIN);
     inner_add(&member->likes, status == LIKES_LIKED);
     return status;
 }
@@ -24,9 +25,10 @@ uint32_t likes_service_glance(likes_service *service, uint32_t user, uint32_t pa
     uint32_t status = inner_begin(service, user, answer == NULL, &member, &seat);
     if (status != LIKES_OK)
         return inner_refuse(answer, status);
-    do
+    do {
         status = likes_client_glance(&member->client, seat->number, user, page, answer);
-    while (inner_again(member, seat, INNER_NEVER, &status));
+        status = inner_told(member, seat, INNER_NEVER, status);
+    } while (status == INNER_AGAIN);
     return status;
 }
 
@@ -36,9 +38,10 @@ uint32_t likes_service_last(likes_service *service, uint32_t user, uint32_t *pag
     uint32_t status = inner_begin(service, user, page == NULL, &member, &seat);
     if (status != LIKES_OK)
         return status;
-    do
+    do {
         status = likes_client_last(&member->client, seat->number, user, page);
-    while (inner_again(member, seat, INNER_NEVER, &status));
+        status = inner_told(member, seat, INNER_NEVER, status);
+    } while (status == INNER_AGAIN);
     return status;
 }
 
@@ -83,9 +86,10 @@ static uint32_t look_until(likes_service *service, uint32_t user, uint32_t page,
         return inner_refuse(answer, status != LIKES_OK ? status : (uint32_t)LIKES_NO_MEMORY);
     uint64_t tag = INNER_TAGS | (uint64_t)(uintptr_t)wait;
     wait->state = INNER_ASKED;
-    do
+    do {
         status = likes_client_look(&member->client, seat->number, user, page, tag, answer);
-    while (inner_again(member, seat, until, &status));
+        status = inner_told(member, seat, until, status);
+    } while (status == INNER_AGAIN);
     if (status == LIKES_WAITS)
         status = await_found(member, wait, until, answer);
     else

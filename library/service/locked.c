@@ -135,7 +135,7 @@ size_t inner_run(inner_member *member, inner_seat *seat, const likes_request *re
             /* Where the host's own looks fill the seat, no phase makes room. */
             if (status == LIKES_NO_ROOM && seat->hosts == member->service->room)
                 status = LIKES_GLIMPSED;
-        } while (waits && inner_again(member, seat, INNER_NEVER, &status));
+        } while (waits && inner_told(member, seat, INNER_NEVER, status) == INNER_AGAIN);
     }
     inner_looks_wait(member, seat, hosts);
     return done;

@@ -26,6 +26,7 @@ static likes_service *made(const likes_shared *shared, const likes_options *opti
     for (uint32_t i = 0; i < seats; i++) {
         inner_seat *seat = &service->seat[i];
         seat->number = i;
+        seat->bit = UINT64_C(1) << i;
         seat->service = service;
         seat->handle.at = (void *)((uintptr_t)seat + 1);
         seat->found = (likes_found *)(service->seat + seats) + (size_t)i * room;

@@ -5,7 +5,7 @@
 uint32_t inner_lock(inner_member *member, inner_seat *seat) {
     uint32_t status = likes_client_lock(&member->client, seat->number);
     if (status == LIKES_OK) {
-        member->has |= UINT64_C(1) << seat->number;
+        member->has |= seat->bit;
         (void)seat->calls;
     }
     return status;
@@ -13,7 +13,7 @@ uint32_t inner_lock(inner_member *member, inner_seat *seat) {
 
 static void unlock(inner_member *member, inner_seat *seat) {
     atomic_store_explicit(&seat->calls, seat->calls, memory_order_release);
-    member->has &= ~(UINT64_C(1) << seat->number);
+    member->has &= ~seat->bit;
     likes_client_unlock(&member->client, seat->number);
 }
 
@@ -66,7 +66,7 @@ bool inner_take_found(inner_member *member, inner_seat *seat, likes_found *found
 
 /* Does the phase work of a seat, with the seat locked. It retires if it is to leave. */
 static void work(inner_member *member, inner_seat *seat) {
-    member->service->work &= ~(UINT64_C(1) << seat->number);
+    member->service->work &= ~seat->bit;
     uint32_t status = seat->is_leaving ? likes_client_retire(&member->client, seat->number)
                                         : likes_client_turn(&member->client, seat->number);
     if (status == LIKES_GONE)
@@ -79,7 +79,7 @@ static void work(inner_member *member, inner_seat *seat) {
  * has it locked. */
 static bool serve(inner_member *member, inner_seat *seat) {
     bool is_mine = inner_has(member, seat), has_worked = false;
-    while ((member->service->work >> seat->number & 1) && (is_mine || inner_lock(member, seat) == LIKES_OK)) {
+    while ((member->service->work & seat->bit) && (is_mine || inner_lock(member, seat) == LIKES_OK)) {
         work(member, seat);
         if (!is_mine)
             unlock(member, seat);

@@ -46,6 +46,7 @@ enum { INNER_ROW = 64 };
 typedef struct inner_seat {
     INNER_APART _Atomic uint32_t asleep; /* 1: a thread sleeps until the seat is free. A futex */
     uint32_t number;
+    uint64_t bit; /* 2^number, in numbers that have a bit for each seat */
     _Atomic uint32_t waiting; /* how many threads wait until it is free */
     _Atomic uint32_t calls;   /* odd while a thread has locked it and is in no call; goes up with each such call */
     _Atomic bool is_leaving;  /* who does its phase work retires it, if it can */
@@ -203,7 +204,7 @@ void inner_attend(inner_member *member, inner_seat *seat);
 /* After each call of a client at a seat. */
 static inline void inner_after(inner_member *member, inner_seat *seat) {
     const likes_service *service = member->service;
-    bool has_work = service->work >> seat->number & 1, is_resting = service->is_resting;
+    bool has_work = (service->work & seat->bit) != 0, is_resting = service->is_resting;
     if (__builtin_expect(has_work || seat->asleep != 0 || is_resting, false))
         inner_attend(member, seat);
 }
@@ -214,7 +215,7 @@ bool inner_work(inner_member *member);
 /* Whether this client has a seat locked. Locks it, if it is free: LIKES_OK or LIKES_BUSY. Unlocks it, and does what was
  * left. */
 static inline bool inner_has(const inner_member *member, const inner_seat *seat) {
-    return (member->has >> seat->number & 1) != 0;
+    return (member->has & seat->bit) != 0;
 }
 uint32_t inner_lock(inner_member *member, inner_seat *seat);
 void inner_unlock(inner_member *member, inner_seat *seat);
@@ -222,17 +223,21 @@ void inner_unlock(inner_member *member, inner_seat *seat);
 /* Takes the next found look of the host's, at a seat that the thread has locked. */
 bool inner_take_found(inner_member *member, inner_seat *seat, likes_found *found);
 
-/* waits.c: waits, where a call of a client wasn't answered, since its seat is busy or between two phases, or looks fill it.
- * Whether it has to be made again. Or it is too late, which is what `until` says: LIKES_LATE. */
-bool inner_wait_on(inner_member *member, inner_seat *seat, uint64_t until, uint32_t *status);
+/* The status of a call that has to be made again. */
+#define INNER_AGAIN UINT32_MAX
 
-/* After a call of a client at a seat: whether it has to be made again. */
-static inline bool inner_again(inner_member *member, inner_seat *seat, uint64_t until, uint32_t *status) {
-    bool is_busy = *status == LIKES_BUSY, is_early = *status == LIKES_BETWEEN || *status == LIKES_NO_ROOM;
+/* waits.c: waits, where a call of a client wasn't answered, since its seat is busy or between two phases, or looks fill
+ * it: INNER_AGAIN, or LIKES_LATE, if that is so at a time. Else it gives the status. */
+uint32_t inner_wait_on(inner_member *member, inner_seat *seat, uint64_t until, uint32_t status);
+
+/* The status after a call of a client at a seat, or INNER_AGAIN. */
+static inline uint32_t inner_told(inner_member *member, inner_seat *seat, uint64_t until, uint32_t status) {
+    bool is_busy = status == LIKES_BUSY, is_early = status == LIKES_BETWEEN || status == LIKES_NO_ROOM;
     if (!is_busy)
         inner_after(member, seat);
-    return __builtin_expect(is_busy || is_early || member->is_waiting, false) &&
-           inner_wait_on(member, seat, until, status);
+    if (__builtin_expect(is_busy || is_early || member->is_waiting, false))
+        return inner_wait_on(member, seat, until, status);
+    return status;
 }
 
 /* Begins a call of a user, by a thread that may have locked none: LIKES_OK, and its member and the user's seat; or what

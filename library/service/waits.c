@@ -80,31 +80,29 @@ static void leave_seat(inner_member *member, inner_seat *seat) {
     member->tries = 0;
 }
 
-INNER_SELDOM bool inner_wait_on(inner_member *member, inner_seat *seat, uint64_t until, uint32_t *status) {
-    bool is_early = *status == LIKES_BETWEEN || *status == LIKES_NO_ROOM, has_time = true;
-    if (*status != LIKES_BUSY) {
+INNER_SELDOM uint32_t inner_wait_on(inner_member *member, inner_seat *seat, uint64_t until, uint32_t status) {
+    bool is_early = status == LIKES_BETWEEN || status == LIKES_NO_ROOM, has_time = true;
+    if (status != LIKES_BUSY) {
         leave_seat(member, seat);
-        note_miss(member, *status == LIKES_BETWEEN);
+        note_miss(member, status == LIKES_BETWEEN);
     }
     if (is_early)
         has_time = wait_for_phase(member, seat, until);
-    else if (*status == LIKES_BUSY)
+    else if (status == LIKES_BUSY)
         has_time = wait_for_seat(member, seat, until);
-    member->is_waiting = has_time && (is_early || *status == LIKES_BUSY);
+    member->is_waiting = has_time && (is_early || status == LIKES_BUSY);
     if (member->is_waiting)
-        return true;
+        return INNER_AGAIN;
     leave_seat(member, seat);
     note_miss(member, false);
     member->spins_until = 0;
-    if (!has_time)
-        *status = LIKES_LATE;
-    return false;
+    return has_time ? status : (uint32_t)LIKES_LATE;
 }
 
 bool inner_lock_until(inner_member *member, inner_seat *seat, uint64_t until) {
     uint32_t status;
     do
-        status = inner_lock(member, seat);
-    while (inner_again(member, seat, until, &status));
+        status = inner_told(member, seat, until, inner_lock(member, seat));
+    while (status == INNER_AGAIN);
     return status == LIKES_OK;
 }

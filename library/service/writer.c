@@ -35,7 +35,8 @@ static uint32_t hand_over(likes_writer *writer, size_t number) {
     do {
         status = likes_client_like_row(&member->client, seat->number, row + done, length - done, &counted);
         done += counted;
-    } while (inner_again(member, seat, INNER_NEVER, &status));
+        status = inner_told(member, seat, INNER_NEVER, status);
+    } while (status == INNER_AGAIN);
     inner_add(&member->likes, done);
     memmove(row, row + done, (length - done) * sizeof *row);
     writer->lengths[number] = (uint8_t)(length - done);

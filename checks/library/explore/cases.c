@@ -169,7 +169,7 @@ static void look_after_misses(void) {
     inner_member *member = miss();
     uint32_t status = LIKES_NO_ROOM;
     begin_call("a look after misses", 2 * PERIOD);
-    while (inner_again(member, &explored->seat[0], INNER_NEVER, &status))
+    while (inner_told(member, &explored->seat[0], INNER_NEVER, status) == INNER_AGAIN)
         status = likes_client_look(&member->client, 0, 0, 0, 3, &answers[0]);
     end_call();
 }
@@ -178,7 +178,7 @@ static void look_after_misses(void) {
 static void like_after_misses(void) {
     inner_member *member = miss();
     uint32_t status = LIKES_BUSY;
-    while (inner_again(member, &explored->seat[0], INNER_NEVER, &status))
+    while (inner_told(member, &explored->seat[0], INNER_NEVER, status) == INNER_AGAIN)
         status = likes_client_like(&member->client, 0, 0, 1);
 }
 
