@@ -4,15 +4,17 @@
 
 #include <stdlib.h>
 
-/* Makes a service over what is proved of it, which is closed. Its seats and their rings lie behind it. NULL: no memory.
- */
+/* Makes a service over what is proved of it, which is closed. NULL: no memory. */
 static likes_service *made(const likes_shared *shared, const likes_options *options) {
     uint32_t seats = (uint32_t)shared->seats, room = options->room > 0 ? options->room : LIKES_DEFAULT_ROOM;
     size_t size = sizeof(likes_service) + seats * sizeof(inner_seat);
-    size_t rings = (size_t)seats * room * sizeof(likes_found);
-    likes_service *service = (likes_service *)aligned_alloc(_Alignof(likes_service), size + rings);
-    if (service == NULL)
+    likes_service *service = (likes_service *)aligned_alloc(_Alignof(likes_service), size);
+    likes_found *found = (likes_found *)calloc((size_t)seats * room, sizeof *found);
+    if (service == NULL || found == NULL) {
+        free(service);
+        free(found);
         return NULL;
+    }
     memset(service, 0, size);
     service->shared = *shared;
     service->seat = (inner_seat *)(service + 1);
@@ -29,7 +31,7 @@ static likes_service *made(const likes_shared *shared, const likes_options *opti
         seat->bit = UINT64_C(1) << i;
         seat->service = service;
         seat->handle.at = (void *)((uintptr_t)seat + 1);
-        seat->found = (likes_found *)(service->seat + seats) + (size_t)i * room;
+        seat->found = found + (size_t)i * room;
     }
     pthread_mutex_init(&service->turning, NULL);
     return service;
@@ -39,6 +41,7 @@ static likes_service *made(const likes_shared *shared, const likes_options *opti
 static void end(likes_service *service) {
     service->is_open = false;
     inner_members_close(service);
+    free(service->seat[0].found);
     pthread_mutex_destroy(&service->turning);
 }
 
