@@ -5,6 +5,7 @@ import os
 import stat
 
 import formats
+import rows
 import stamps
 import tables
 import web
