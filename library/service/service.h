@@ -95,7 +95,7 @@ struct likes_service {
     inner_seat *seat; /* seat[n] is the one with number n */
     size_t pages;
     uint64_t period;                    /* in nanoseconds */
-    INNER_APART _Atomic uint64_t pulse; /* for writers: how often the driver's thread went to sleep */
+    INNER_APART _Atomic uint64_t pulse; /* for writers: goes up once in a period, and when the service begins to rest */
     _Atomic bool is_used;               /* a call was made since the last round */
     _Atomic uint64_t released;          /* the phase that was last released; a futex, by its lower half */
     _Atomic uint64_t work;     /* the seats whose phase work is to be done. A bit for each, as in `all` */

@@ -21,18 +21,30 @@ static bool rests(likes_service *service) {
 }
 
 /* Until when the thread sleeps: until the phase is due, or where that is ending, or another thread has yet to end it, for
- * a period, and for a millisecond at least. */
-static uint64_t wake_time(const likes_service *service, bool is_busy) {
+ * a period, and for a millisecond at least. Where writers are open, until the next pulse at most. */
+static uint64_t wake_time(const likes_service *service, bool is_busy, uint64_t beat) {
     bool is_ending = service->is_ending;
     uint64_t now = inner_clock(), least = now + INNER_SPIN_TIME, time = service->due;
     if (is_ending || (is_busy && time <= now))
         time = now + (service->period > INNER_CHOICE_TIME ? service->period : INNER_CHOICE_TIME);
+    if (service->writers > 0 && beat < time)
+        time = beat;
     return time < least ? least : time;
+}
+
+/* Goes on to the next pulse, if it is due, or the service begins to rest. When the one after it is due. */
+static uint64_t pulse(likes_service *service, bool is_resting, uint64_t beat) {
+    uint64_t now = inner_clock();
+    if (now < beat && !is_resting)
+        return beat;
+    service->pulse++;
+    return now + service->period;
 }
 
 /* Whoever calls the thread after it has read `call` keeps it from its sleep. */
 void *inner_driver(void *at) {
     likes_service *service = (likes_service *)at;
+    uint64_t beat = inner_clock() + service->period;
     while (!service->is_stopping) {
         uint32_t call = service->call;
         uint64_t until = INNER_NEVER;
@@ -42,10 +54,10 @@ void *inner_driver(void *at) {
         if (!is_busy)
             pthread_mutex_unlock(&service->turning);
         inner_turns(service->own);
-        service->pulse++;
+        beat = pulse(service, is_resting, beat);
         service->wakes_at = is_resting ? 0 : INNER_NEVER;
         if (!is_resting)
-            service->wakes_at = until = wake_time(service, is_busy);
+            service->wakes_at = until = wake_time(service, is_busy, beat);
         inner_futex_wait(&service->call, call, until);
         service->wakes_at = 0;
     }

@@ -1,8 +1,8 @@
 /* Writers: each keeps likes in rows, one for each seat, and hands a row over as a whole.
  *
- * A row is handed over when it is full, and else by the service's pulse, a number that goes up before the driver's thread
- * sleeps: about once in a period, and no rest begins without one after each like. A call that sees another one hands over
- * all rows: so none is kept for longer than about a period, as long as the writer is called, and a call reads no clock. */
+ * A row is handed over when it is full, and else by the service's pulse, a number that the driver's thread raises once in
+ * a period, and when the service begins to rest. A call that sees another one hands over all rows: so none is kept for
+ * longer than about a period, as long as the writer is called, and a call reads no clock. */
 #include "service.h"
 
 #include <stdlib.h>
@@ -88,7 +88,7 @@ uint32_t likes_writer_open(likes_service *service, likes_writer **writer) {
     made->service = service;
     made->pulse = service->pulse;
     service->writers += 1;
-    /* If the service rests, there is no pulse. */
+    /* From now on the driver's thread sleeps until the next pulse at most. */
     inner_note_use(service);
     inner_call(service);
     *writer = made;
