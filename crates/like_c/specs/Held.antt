@@ -123,7 +123,7 @@ LastLikeAt user at old result page after =
     At ((result ≡ status.empty) × (page ≡ old)) (λ s t. (t ≡ s) × ((answer : Result (Option ℕ) Verdict)
     × TellsLast s.live user answer × GivesLast answer old result page)) at after
 
--- the last likes of a seat's users from a place on are written, if it has that many users
+-- the last likes of a seat's users from a rank on are written, if it has that many users
 pub data GivesLasts (v : LiveView) (from : ℕ) (old : List ℕ) (result : ℕ) (pages : List ℕ) : Type 0 where
   gives_range : ¬ (from + length old ≤ users_of v) → result ≡ status.wrong_range → pages ≡ old
       → GivesLasts v from old result pages

@@ -114,7 +114,7 @@ pub extern "C" fn likes_client_last(
     }
 }
 
-/// The last likes of a seat's users, from place `from` on.
+/// The last likes of a seat's users from rank `from` on.
 #[unsafe(no_mangle)]
 pub extern "C" fn likes_proved_client_lasts(
     client: &mut ClientHandle,
@@ -247,7 +247,7 @@ pub extern "C" fn likes_client_phase(client: &mut ClientHandle, seat: u32, phase
     }
 }
 
-/// Tells where the last likes of a seat's users lie in memory, four bytes for each place, so that C can have the
+/// Tells where the last likes of a seat's users lie in memory, four bytes for each user, so that C can have the
 /// processor fetch them early. No contract says where.
 #[unsafe(no_mangle)]
 pub extern "C" fn likes_proved_client_address(

@@ -28,7 +28,7 @@ pub(crate) fn check_seats(opened: &Opened, seats: &mut [SeatHandle]) -> Result<(
     Ok(())
 }
 
-// The same of one seat, which has this number.
+// Checks that the seat with this number is gone.
 fn check_seat(opened: &Opened, seat: &mut SeatHandle, number: usize) -> Result<(), u32>
     ensures gone { IfOk result (λ _. HoldsGone seat.old) }
     ensures refused { IfErr result (PreventsEnd seat.old) }

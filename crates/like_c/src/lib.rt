@@ -320,7 +320,7 @@ pub extern "C" fn likes_proved_seat_last(seat: &mut SeatHandle, user: u32, page:
     }
 }
 
-/// The last likes of a seat's users, from place `from` on.
+/// The last likes of a seat's users from rank `from` on.
 #[unsafe(no_mangle)]
 pub extern "C" fn likes_proved_seat_lasts(
     seat: &mut SeatHandle,

@@ -11,8 +11,8 @@ mod taken;
 use self::fill::fill;
 use self::kept::kept;
 use self::pages::{has_page, marked_first, write_used};
-use self::taken::bucket_of;
 use crate::bits::low_bits;
+use like_limits::bucket;
 use std::marker::Model;
 
 /// The slots of a service: 64 places for the pages that are split in its split phases.
@@ -91,7 +91,7 @@ impl Slots {
         ensures bucket { result ≡ bucket self.now.factor page }
         ensures below { result < buckets }
     {
-        bucket_of(self.factor, page)
+        bucket(self.factor, page)
     }
 
     /// Whether a choice among these pages would leave a slot in use: a page is marked, or one of these is a page of the

@@ -51,14 +51,14 @@ additions_of v page = added_to page (additions_among v.did)
 abbrev pub additions_in : WorkerSeatView → ℕ → ℕ → ℕ
 additions_in v phase page = added_in phase page (additions_among v.did)
 
--- whether the page is sliced in the post's phase
-abbrev pub slices : WorkerSeatView → ℕ → Bool
-slices v page = split_by v.opening.limits.hot (is_marked v.opening.marks) (mask_of v.masks) (phase_of v.state) page
+-- whether the page is split in the post's phase
+abbrev pub is_split_at : WorkerSeatView → ℕ → Bool
+is_split_at v page = split_by v.opening.limits.hot (is_marked v.opening.marks) (mask_of v.masks) (phase_of v.state) page
 
--- the post knows whether the page is sliced: an unmarked page that may be hot may be so in a split phase, so there the
+-- the post knows whether the page is split: an unmarked page that may be hot may be so in a split phase, so there the
 -- post has read the phase's mask
-abbrev pub KnowsSlices : WorkerSeatView → ℕ → Type 0
-KnowsSlices v page =
+abbrev pub KnowsSplit : WorkerSeatView → ℕ → Type 0
+KnowsSplit v page =
     IsSplit (phase_of v.state) → is_marked v.opening.marks page ≡ false → page < v.opening.limits.hot
     → HasMask (phase_of v.state) v.masks
 
@@ -119,31 +119,31 @@ with_slot v slot page = record v { slots = take slot v.slots ++ page ∷ [] }
 abbrev pub slots_read : WorkerSeatView → ℕ → ℕ
 slots_read v bits = mask_of_slots (slice_index v.slots) bits hot_pages
 
--- n likes may be added to the page: 1 if it isn't sliced; if it is, some, once the end of the phase was seen
+-- n likes may be added to the page: 1 if it isn't split; if it is, some, once the end of the phase was seen
 pub record MayAdd (v : WorkerSeatView) (page n : ℕ) : Type 0 where
   pub runs : IsRunning v.state
   pub there : page < pages_of v
-  pub known : KnowsSlices v page
-  -- a page that is not sliced gets one like
-  pub like : slices v page ≡ false → n ≡ 1
+  pub known : KnowsSplit v page
+  -- a page that is not split gets one like
+  pub like : is_split_at v page ≡ false → n ≡ 1
   -- a slice has likes, and is merged once the end of the phase was seen
-  pub merge : slices v page ≡ true → (1 ≤ n) × SawEnding v.last
+  pub merge : is_split_at v page ≡ true → (1 ≤ n) × SawEnding v.last
   -- all additions of the post together stay within the likes of a worker
   pub few : all_added (additions_among v.did) + n ≤ v.opening.limits.likes
 
--- the page may be read: it is not sliced
+-- the page may be read: it is not split
 pub record MayRead (v : WorkerSeatView) (page : ℕ) : Type 0 where
   pub runs : IsRunning v.state
   pub there : page < pages_of v
-  pub known : KnowsSlices v page
-  pub plain : slices v page ≡ false
+  pub known : KnowsSplit v page
+  pub plain : is_split_at v page ≡ false
 
--- the page may be glanced at: it is sliced
+-- the page may be glanced at: it is split
 pub record MayGlance (v : WorkerSeatView) (page : ℕ) : Type 0 where
   pub runs : IsRunning v.state
   pub there : page < pages_of v
-  pub known : KnowsSlices v page
-  pub sliced : slices v page ≡ true
+  pub known : KnowsSplit v page
+  pub split : is_split_at v page ≡ true
 
 -- a slot may be read: the post runs a split phase of a service, and has read those before it
 pub record MayReadSlot (v : WorkerSeatView) (slot : ℕ) : Type 0 where

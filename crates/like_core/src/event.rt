@@ -9,9 +9,9 @@ pub enum Event {
     Report(u32),
     /// The worker ends, in a joined phase.
     Retire(u32),
-    /// The worker runs a like: in its slice where the page is sliced, else on the page's count.
+    /// The worker runs a like: in its slice where the page is split, else on the page's count.
     Like(u32, u32),
-    /// The worker reads the count of a page that is not sliced.
+    /// The worker reads the count of a page that is not split.
     Read(u32, u32),
     /// The worker adds its slice of a page to the page's count.
     Merge(u32, u32),

@@ -15,8 +15,8 @@ const GONE_AT: u32 = 9;
 
 const PHASE_AT: u32 = 16;
 
-// The greatest number that a count has room for.
-const MOST: u64 = 127;
+// The bits of a count, which has seven.
+const COUNT_MASK: u64 = 127;
 
 /// How a phase word tells who has answered.
 #[derive(Clone, Copy, PartialEq, Eq)]
@@ -109,8 +109,8 @@ impl Form {
         match self {
             Form::Bits => has_all((word >> ANSWERED_AT) | (word >> RETIRED_AT), workers),
             Form::Counts => {
-                let answered = (word >> COUNT_AT) & MOST;
-                let gone = (word >> GONE_AT) & MOST;
+                let answered = (word >> COUNT_AT) & COUNT_MASK;
+                let gone = (word >> GONE_AT) & COUNT_MASK;
                 answered + gone == u64::from(workers)
             }
         }
@@ -123,7 +123,7 @@ impl Form {
     {
         match self {
             Form::Bits => has_all(word >> RETIRED_AT, workers),
-            Form::Counts => (word >> GONE_AT) & MOST == u64::from(workers),
+            Form::Counts => (word >> GONE_AT) & COUNT_MASK == u64::from(workers),
         }
     }
 
@@ -154,7 +154,7 @@ impl Form {
                 kind + (workers << WORKERS_AT) + (retired << RETIRED_AT) + (number << NUMBER_AT)
             }
             Form::Counts => {
-                let gone = (word >> GONE_AT) & MOST;
+                let gone = (word >> GONE_AT) & COUNT_MASK;
                 let phase = (word >> PHASE_AT) + 1;
                 kind + (gone << GONE_AT) + (phase << PHASE_AT)
             }

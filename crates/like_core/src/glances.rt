@@ -5,9 +5,9 @@ ghost use Rattle.like_core.specs.views.Actions.{Glances};
 
 use crate::post::Post;
 
-/// A post of a service, whose worker can look at a sliced page's count before the end of the phase.
+/// A post of a service, whose worker can look at a split page's count before the end of the phase.
 pub trait Glances: Post {
-    /// The count of a page that is sliced. It lacks what the slices of the present phase have, the worker's own too.
+    /// The count of a page that is split. It lacks what the slices of the present phase have, the worker's own too.
     fn glance(&mut self, page: u32) -> u64
         requires { MayGlance (Self.view self.old) page }
         ensures board { Self.board self.new ≡ Self.board self.old }

@@ -7,7 +7,7 @@ ghost use Rattle.like_core.specs.core.Likes.{LikesStayReachable, LikesStayReache
 ghost use Rattle.like_core.specs.core.Moves.{AllInStays, AllStayIn, NobodyReturns};
 ghost use Rattle.like_core.specs.views.Layout.{WordsStandApart};
 ghost use Rattle.like_core.specs.views.Shows.{CountsAreOfOneMoment, MomentsAreReachable};
-ghost use Rattle.like_core.specs.views.SplitPages.{SlicesAreSplit, SlotsAreExact};
+ghost use Rattle.like_core.specs.views.SplitPages.{SlotsAreExact, SplitPagesAgree};
 ghost use Rattle.like_core.specs.views.Serves.{AllGoneCounts, AllInCounts, AnswersOne, FormServes, RetiresOne, ReturnsOne, WordTellsPhase};
 ghost use Rattle.like_core.specs.word.KindTells.{KindTellsPhase};
 ghost use Rattle.like_core.specs.views.Clock.{LaterOrdersContinue, NumbersRise, PhasesKeepTime, SeatsFixOrder};
@@ -169,8 +169,8 @@ pub fn slots_are_exact()
 {}
 
 /// What a worker slices in a phase that it runs is what is split in it.
-pub fn slices_are_split()
-    ensures { SlicesAreSplit }
+pub fn split_pages_agree()
+    ensures { SplitPagesAgree }
 {}
 
 /// The word of a program serves: it has a place for each phase and two bits for each worker.

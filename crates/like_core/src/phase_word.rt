@@ -9,7 +9,7 @@ pub use kind::Kind;
 pub const LAST_PHASE: u32 = 16_777_214;
 
 /// The most workers of a board.
-const MAX_WORKERS: u32 = 16;
+const MAX_WORKERS: u32 = like_limits::MAX_WORKERS;
 
 // Where each field begins in the one number that holds all, from its lowest bit; the kind begins at bit 0.
 pub(crate) const WORKERS_AT: u32 = 2;

@@ -10,7 +10,7 @@ use crate::sight::Sight;
 
 /// A worker's place at a board. At first the worker runs phase 0.
 ///
-/// Each call is one step on the board's words, and none waits. A like of a sliced page is no call: it goes into a slice
+/// Each call is one step on the board's words, and none waits. A like of a split page is no call: it goes into a slice
 /// that the worker keeps, and the slice's number is added at the end of the phase.
 ///
 /// A look, an addition and a read are entries in the board's log, and so are a glance and a return. The view after the
@@ -57,7 +57,7 @@ pub trait Post {
         ensures view { view self.new ≡ retired (view self.old) }
         ensures event { Retires (view self.old) (view self.new) };
 
-    /// Adds to a page's count, and returns the count before: a like of a page that is not sliced, or the merge of a
+    /// Adds to a page's count, and returns the count before: a like of a page that is not split, or the merge of a
     /// slice of `n` likes.
     fn add(&mut self, page: u32, n: u64) -> u64
         requires { MayAdd (view self.old) page n }
@@ -66,7 +66,7 @@ pub trait Post {
         ensures event { Adds (view self.old) page n result (view self.new) }
         ensures own { additions_of (view self.old) page ≤ result };
 
-    /// The count of a page that is not sliced.
+    /// The count of a page that is not split.
     fn read(&mut self, page: u32) -> u64
         requires { MayRead (view self.old) page }
         ensures board { board self.new ≡ board self.old }

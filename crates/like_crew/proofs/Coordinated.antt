@@ -1,7 +1,7 @@
 -- The same crew, later.
 use Rattle.std.proofs.Common.{◌≡◌, ℕ, zero, suc, ◌%◌, ◌<◌, List, [], ◌∷◌, length, slice_get, Some, refl, ap, ◌∙◌, subst, arith}
 use Rattle.std.specs.List.{AllZip}
-use Rattle.like_tables.specs.Share.{Share, place_of}
+use Rattle.like_tables.specs.Share.{Share, rank_of}
 use Rattle.like_roles.proofs.choice.Coordinating.{coordinator-further, coordinator-same}
 use Rattle.like_crew.specs.Server.{ServerGoesOn, ServerView}
 use Rattle.like_crew.specs.Crew.{CrewView, GoesOn, HasInbox}
@@ -38,10 +38,10 @@ inbox-later ss ts submitter all has =
       omega (arith, has.0, same),
       λ t e.
           let was = was-at ss ts (submitter % length ts) t all e in
-          let there : place_of was.0.worker.last.share.workers submitter < length was.0.inboxes =
+          let there : rank_of was.0.worker.last.share.workers submitter < length was.0.inboxes =
           has.1 was.0 (ap (λ n. slice_get ss (submitter % n)) same ∙ was.1.0) in
-          let place : place_of t.worker.last.share.workers submitter
-          ≡ place_of was.0.worker.last.share.workers submitter =
-          ap (λ (x : Share). place_of x.workers submitter) was.1.1.share in
+          let place : rank_of t.worker.last.share.workers submitter
+          ≡ rank_of was.0.worker.last.share.workers submitter =
+          ap (λ (x : Share). rank_of x.workers submitter) was.1.1.share in
           omega (arith, there, place, was.1.1.inboxes),
     )

@@ -5,7 +5,7 @@ use Rattle.std.proofs.Math.Nat.{div-add-mod}
 use Rattle.std.proofs.lemmas.List.{length-map}
 use Rattle.std.proofs.lemmas.List.FromFn.{length-range_with_len}
 use Rattle.std.proofs.lemmas.Option.{slice_get-get_or, slice_get_within}
-use Rattle.like_tables.specs.Share.{Share, place_of}
+use Rattle.like_tables.specs.Share.{Share, rank_of}
 use Rattle.like_promises.specs.Workload.{Workload, submitters, workload_of}
 use Rattle.like_crew.specs.Crew.{CrewView, GoesOn, HasInbox, IsCrewAt}
 use Rattle.like_requests.specs.declared.request.Request.{Request}
@@ -66,7 +66,7 @@ has-inbox workload workers board notes servers submitter are some there =
           let share : Share = s.worker.last.share in
           let by : share.workers ≡ length servers = ap (λ (x : Share). x.workers) is.share ∙ sized in
           let mine : share.worker ≡ worker = ap (λ (x : Share). x.worker) is.share in
-          let place : ℕ = place_of share.workers submitter in
+          let place : ℕ = rank_of share.workers submitter in
           let whole : share.worker + share.workers * place ≡ submitter =
           by_place submitter share.worker share.workers (length servers) by mine in
           let plan : slice_get (plans_of s.inboxes) place ≡ slice_get workload.plans submitter =

@@ -9,7 +9,7 @@ use Rattle.like_requests.specs.declared.setup.Setup.{Setup}
 use Rattle.like_core.specs.declared.worker_state.WorkerState.TheVariants.{Runs}
 use Rattle.like_queue.specs.Inbox.{item_count}
 use Rattle.like_tables.specs.Share.{dealt}
-use Rattle.like_tables.specs.Waiting.{Waiting}
+use Rattle.like_tables.specs.StashView.{StashView}
 use Rattle.like_tables.specs.declared.held.Held.{Held}
 use Rattle.like_ending.specs.Progress.{IsStart, WorkerProgress, items_in}
 use Rattle.like_roles.specs.coordinator.CoordTurns.{CoordinatorView}
@@ -57,8 +57,8 @@ new-start setup plans c new =
           (seconds R (λ (s : ServerView). s.worker.post.state ≡ Runs 0) (range_with_len 0 setup.workers) c.servers
           (λ k s is. ap (λ v. v.state) is.post.fresh) new.servers);
       none = all-map progress_of (λ (w : WorkerProgress). w.looks ≡ 0) c.servers
-          (seconds R (λ (s : ServerView). length s.worker.held.held ≡ 0) (range_with_len 0 setup.workers) c.servers
-          (λ k s is. ap (λ (w : Waiting Held). length w.held) is.new.held) new.servers);
+          (seconds R (λ (s : ServerView). length s.worker.stash.looks ≡ 0) (range_with_len 0 setup.workers) c.servers
+          (λ k s is. ap (λ (w : StashView Held). length w.looks) is.new.stash) new.servers);
     }
 
 -- it has the turns of the settings

@@ -8,7 +8,7 @@ use Rattle.like_board.specs.Rule.{opened_coord}
 use Rattle.like_board.specs.Seats.{BoardId, board_id, board_numbers}
 use Rattle.like_roles.specs.declared.terms.Terms.{Terms}
 use Rattle.like_roles.specs.coordinator.CoordTurns.{CoordinatorGoesOn, CoordinatorView, new_coordinator}
-use Rattle.like_tables.specs.Share.{place_of, worker_of}
+use Rattle.like_tables.specs.Share.{rank_of, worker_of}
 use Rattle.like_crew.specs.declared.crew.Crew.{Crew}
 use Rattle.like_crew.specs.declared.site.Site.{Site}
 use Rattle.like_promises.specs.Workload.{workload_of}
@@ -56,7 +56,7 @@ pub record IsNewCrew (setup : Setup) (plans : List (List Request)) (c : CrewView
 abbrev pub HasInbox : List ServerView → ℕ → Type 0
 HasInbox servers submitter = (0 < length servers)
     × ((s : ServerView) → slice_get servers (worker_of (length servers) submitter) ≡ Some s
-    → place_of s.worker.last.share.workers submitter < length s.inboxes)
+    → rank_of s.worker.last.share.workers submitter < length s.inboxes)
 
 -- the workers of these servers are gone
 abbrev pub AreGone : List ServerView → Type 0

@@ -15,7 +15,7 @@ abbrev pub progress_of : ServerView → WorkerProgress
 progress_of s = record {
   state = s.worker.post.state;
   items = sum_by items_left s.inboxes;
-  looks = length s.worker.held.held;
+  looks = length s.worker.stash.looks;
 }
 
 -- how many items plans have: the requests, and an end mark each

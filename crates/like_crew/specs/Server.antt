@@ -10,7 +10,7 @@ use Rattle.like_core.specs.declared.worker_state.WorkerState.TheVariants.{Gone}
 use Rattle.like_core.specs.PhaseMasks.{AreMasksOf}
 use Rattle.like_core.specs.Post.{pages_of}
 use Rattle.like_queue.specs.Inbox.{InboxView}
-use Rattle.like_tables.specs.Share.{Share, dealt, place_of, serves}
+use Rattle.like_tables.specs.Share.{Share, dealt, rank_of, serves}
 use Rattle.like_roles.specs.worker.Follows.{Follows, IsDone}
 use Rattle.like_promises.specs.declared.log.Took.{Took}
 use Rattle.like_promises.specs.declared.log.WorkerLog.{WorkerLog}
@@ -18,7 +18,7 @@ use Rattle.like_promises.specs.Workload.{Workload}
 use Rattle.like_roles.specs.worker.WorkerView.{WorkerView, phase_at}
 use Rattle.like_promises.specs.Log.{TakesPlans}
 
--- the numbers that tell its board from others, the worker, the inboxes of its submitters by place, and how many items of
+-- the numbers that tell its board from others, the worker, the inboxes of its submitters by rank, and how many items of
 -- each are open to it
 pub record ServerView : Type 0 where
   pub board : List ℕ
@@ -51,11 +51,11 @@ numbers_taken submitter taken = map (λ t. t.number) (filter (λ t. t.submitter 
 abbrev pub numbers_given : Share → List InboxView → ℕ → List ℕ
 numbers_given share inboxes submitter =
     if serves share submitter
-    then range_with_len 1 (option_map_or requests_taken (slice_get inboxes (place_of share.workers submitter)) 0)
+    then range_with_len 1 (option_map_or requests_taken (slice_get inboxes (rank_of share.workers submitter)) 0)
     else []
 
--- what a worker keeps of the submitter at a place agrees with its inbox: how many requests are left, and whether the end
--- mark was taken; and the pages of its plan are there
+-- what a worker keeps of the submitter with a rank agrees with its inbox: how many requests are left, and whether the
+-- end mark was taken; and the pages of its plan are there
 pub record AgreesAt (v : WorkerView) (place : ℕ) (i : InboxView) : Type 0 where
   pub left : slice_index v.left place + requests_taken i ≡ length i.plan
   pub ended : slice_index_or v.ended place true ≡ nat_lt (length i.plan) i.taken

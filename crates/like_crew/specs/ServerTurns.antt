@@ -3,7 +3,7 @@ use Rattle.std.specs.Prelude.{◌≡◌, ℕ, ◌+◌, ◌<◌, ◌≤◌, min, 
 use Rattle.like_requests.specs.declared.request.Taken.{Taken}
 use Rattle.like_requests.specs.declared.request.Taken.TheVariants.{Nothing}
 use Rattle.like_queue.specs.Inbox.{HandsOver, InboxView, item_count}
-use Rattle.like_tables.specs.Share.{place_of}
+use Rattle.like_tables.specs.Share.{rank_of}
 use Rattle.like_roles.specs.declared.turn.Turn.{Turn}
 use Rattle.like_roles.specs.declared.turn.Turn.TheVariants.{Try}
 use Rattle.like_roles.specs.worker.Turns.{Gives, Turns}
@@ -12,8 +12,8 @@ use Rattle.like_crew.specs.Fresh.{AllOpen, IsModelled}
 use Rattle.like_crew.specs.Server.{ServerView}
 
 -- the place of a submitter's inbox
-abbrev pub place_at : ServerView → ℕ → ℕ
-place_at s submitter = place_of s.worker.last.share.workers submitter
+abbrev pub rank_at : ServerView → ℕ → ℕ
+rank_at s submitter = rank_of s.worker.last.share.workers submitter
 
 -- a whole turn of a server: its worker's turn; if that tries a submitter, it is given what that inbox hands over, which
 -- is nothing only if no more items of it are open than were taken
@@ -22,10 +22,10 @@ pub data ServerTurns (answer : Turn) (s t : ServerView) : Type 0 where
       → t ≡ record s { worker = t.worker } → ServerTurns answer s t
   tries : (submitter : ℕ) (tried : WorkerView) (i j : InboxView) (took : Taken)
       → Turns s.worker (Try submitter) tried
-      → slice_get s.inboxes (place_at s submitter) ≡ Some i → HandsOver i took j
-      → (took ≡ Nothing → slice_index s.opened (place_at s submitter) ≤ i.taken)
+      → slice_get s.inboxes (rank_at s submitter) ≡ Some i → HandsOver i took j
+      → (took ≡ Nothing → slice_index s.opened (rank_at s submitter) ≤ i.taken)
       → Gives tried took answer t.worker
-      → t ≡ record s { worker = t.worker; inboxes = slice_set s.inboxes (place_at s submitter) j }
+      → t ≡ record s { worker = t.worker; inboxes = slice_set s.inboxes (rank_at s submitter) j }
       → ServerTurns answer s t
 
 -- a turn takes only what is open: of a list from which it takes, no more is taken then than is open
@@ -42,10 +42,10 @@ pub record IsTurn (answer : Turn) (s t : ServerView) : Type 0 where
 -- one item more of a submitter's list is open, if not all were
 pub record OpensOne (submitter : ℕ) (s t : ServerView) : Type 0 where
   pub inbox : InboxView
-  pub here : slice_get s.inboxes (place_at s submitter) ≡ Some inbox
-  pub more : let open_now = slice_index s.opened (place_at s submitter) in
+  pub here : slice_get s.inboxes (rank_at s submitter) ≡ Some inbox
+  pub more : let open_now = slice_index s.opened (rank_at s submitter) in
       t ≡ record s {
-        opened = slice_set s.opened (place_at s submitter) (min (open_now + 1) (item_count inbox.plan));
+        opened = slice_set s.opened (rank_at s submitter) (min (open_now + 1) (item_count inbox.plan));
       }
 
 -- all items of its lists are open

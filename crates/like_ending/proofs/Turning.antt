@@ -37,7 +37,7 @@ works_joined : (phase : ℕ) (ending : Bool) (w : WorkerProgress)
     → CanWork phase ending w
 unfolding CanWork
 works_joined phase ending w runs = elim (cases_lt 0 w.looks) [
-  | inl some ↦ (_, turn.works (turn.runs_held runs some refl))
+  | inl some ↦ (_, turn.works (turn.runs_stashed runs some refl))
   | inr none ↦ elim (cases_lt 0 w.items) [
     | inl more ↦ elim (cases_Bool ending) [
       | inl now ↦ (_, turn.works (turn.acknowledges runs (omega arith) more now refl))

@@ -5,7 +5,7 @@ use Rattle.like_core.specs.declared.worker_state.WorkerState.TheVariants.{Runs, 
 use Rattle.like_core.specs.Phase.{IsJoined, IsSplit}
 use Rattle.like_core.specs.WorkerState.{looked, phase_of}
 use Rattle.like_ending.specs.Progress.{WorkerProgress, one_until_gone, remaining}
-use Rattle.like_ending.specs.FreshTurns.{FreshWorks, FreshTurns, saw, runs_held, retires, acknowledges, takes_joined, finds_nothing, reports, idles, takes_split, stashes, is_gone, waits, works}
+use Rattle.like_ending.specs.FreshTurns.{FreshWorks, FreshTurns, saw, runs_stashed, retires, acknowledges, takes_joined, finds_nothing, reports, idles, takes_split, stashes, is_gone, waits, works}
 use Rattle.like_ending.specs.InPhase.{SuitsPhase}
 use Rattle.like_ending.specs.Measures.{changes_ahead, work_ahead}
 use Rattle.like_ending.proofs.States.{Enters, enters, answered_ahead}
@@ -125,7 +125,7 @@ works_does : (all_open : Bool) (phase : ℕ) (ending : Bool) (w v : WorkerProgre
     → SuitsPhase phase ending w.state
     → FreshWorks all_open ending (saw phase w) v
     → Does all_open phase ending w v
-works_does all_open phase ending w v suits (runs_held even some e) =
+works_does all_open phase ending w v suits (runs_stashed even some e) =
     let n = enters IsJoined phase ending w.state suits even in
     let state : v.state ≡ Runs phase = ap (λ (x : WorkerProgress). x.state) e ∙ n.runs in
     let items : v.items ≡ w.items = ap (λ (x : WorkerProgress). x.items) e in

@@ -20,7 +20,7 @@ answered w = record w { state = Answered (phase_of w.state) }
 -- what a worker does that has looked and runs a phase. In a split phase it may always be idle: its stash may be full.
 -- In a joined one it finds nothing to take only if not all lists are open
 pub data FreshWorks (all_open ending : Bool) (w after : WorkerProgress) : Type 0 where
-  runs_held : RunsJoined w.state → 0 < w.looks → after ≡ record w { looks = w.looks - 1 }
+  runs_stashed : RunsJoined w.state → 0 < w.looks → after ≡ record w { looks = w.looks - 1 }
       → FreshWorks all_open ending w after
   retires : RunsJoined w.state → w.looks ≡ 0 → w.items ≡ 0 → after ≡ record w { state = Gone }
       → FreshWorks all_open ending w after

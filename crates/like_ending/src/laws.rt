@@ -27,8 +27,8 @@ pub fn rounds_end()
     ensures { RoundsEnd }
 {}
 
-/// So do fair rounds: if each worker has a turn between any two of the coordinator's, in any order and number, the
-/// coordinator finds all workers gone after as many turns.
+/// Fair rounds end: if each worker has a turn between any two of the coordinator's, in any order and number, the
+/// coordinator finds all workers gone after as many turns as `rounds_end` has rounds.
 pub fn fair_rounds_end()
     ensures { FairRoundsEnd }
 {}

@@ -4,7 +4,7 @@ use Rattle.std.proofs.Math.Seq.{drop-append_seam, drop-length}
 use Rattle.std.proofs.lemmas.List.{drop-drop, drop_all}
 use Rattle.like_core.specs.declared.log.Logged.{Logged}
 use Rattle.like_core.specs.declared.sight.Sight.{Sight}
-use Rattle.like_core.specs.Post.{answered, number_of, slices}
+use Rattle.like_core.specs.Post.{answered, is_split_at, number_of}
 use Rattle.like_core.specs.WorkerState.{IsRunning, IsSightOf, RunsJoined, RunsSplit}
 use Rattle.like_requests.specs.declared.verdict.Verdict.TheVariants.{Accepted}
 use Rattle.like_seat.specs.Merge.{merged}
@@ -72,7 +72,7 @@ has_looked v now (moves.works sight mask number can w does) split = by_works doe
 pub record IsSliced (v after : LiveView) (user page : ℕ) (told : LikeAnswer) : Type 0 where
   pub told_is : told ≡ Liked
   pub accepted : verdict_at v.station user page ≡ Accepted
-  pub at : slices v.station.post page ≡ true
+  pub at : is_split_at v.station.post page ≡ true
   pub is : after ≡ with_station v (liked_last (sliced v.station page) user page)
 
 -- a like of a row finds nothing, and is the deed that a single one is

@@ -13,9 +13,9 @@ use Rattle.like_core.specs.WorkerState.{phase_of}
 use Rattle.like_core.specs.PageSteps.{additions_among}
 use Rattle.like_requests.specs.declared.verdict.Verdict.TheVariants.{Accepted}
 use Rattle.like_seat.specs.StationView.{StationView, phase_at, tally_of}
-use Rattle.like_seat.specs.Steps.{CountsLike, holding}
+use Rattle.like_seat.specs.Steps.{CountsLike, stashing}
 use Rattle.like_tables.specs.UserTable.{with_last}
-use Rattle.like_tables.specs.Waiting.{Waiting}
+use Rattle.like_tables.specs.StashView.{StashView}
 use Rattle.like_live.specs.declared.answer.GlanceAnswer.{GlanceAnswer}
 use Rattle.like_live.specs.declared.answer.GlanceAnswer.TheVariants as glanced
 use Rattle.like_live.specs.declared.answer.LikeAnswer.{LikeAnswer}
@@ -145,14 +145,14 @@ Moves-leaves v after answer sized moves =
     record { same = left.same; tallies = left.tallies; last = left.last }
 
 -- so reads, glances and looks that wait leave them, after a turn that does
-still-leaves : (u v : LiveView) (did : List PageStep) (logged : List Logged) (held : Waiting Asked)
+still-leaves : (u v : LiveView) (did : List PageStep) (logged : List Logged) (stash : StashView Asked)
     → additions_among did ≡ additions_among v.station.post.did
     → LeavesLikes u v
     → LeavesLikes u (with_station v (record v.station {
       post = record v.station.post { did = did; logged = logged };
-      held = held;
+      stash = stash;
     }))
-still-leaves u v did logged held same_adds turn =
+still-leaves u v did logged stash same_adds turn =
     let same = turn.same in
     record {
       same = record { board = same.board; worker = same.worker; marks = same.marks; share = same.share };
@@ -169,12 +169,12 @@ LooksNow-leaves u v after user page tag answer turn (calls.refused fails a is) =
 LooksNow-leaves u v after user page tag answer turn (calls.seen shown s accepted plain a read is) =
     subst (LeavesLikes u) (sym (is ∙ ap (with_station v) read.read))
     (let now : WorkerSeatView = has_read v.station.post page shown.count (number_of s.post) in
-    still-leaves u v now.did now.logged v.station.held refl turn)
+    still-leaves u v now.did now.logged v.station.stash refl turn)
 LooksNow-leaves u v after user page tag answer turn (calls.no_room accepted split most a is) =
     subst (LeavesLikes u) (sym is) turn
 LooksNow-leaves u v after user page tag answer turn (calls.waits accepted split room a is) =
     subst (LeavesLikes u) (sym is)
-    (still-leaves u v v.station.post.did v.station.post.logged (holding v.station (asked_in (phase_at v.station) user page tag)).held refl turn)
+    (still-leaves u v v.station.post.did v.station.post.logged (stashing v.station (asked_in (phase_at v.station) user page tag)).stash refl turn)
 
 -- so does a glance
 pub GlancesNow-leaves : (u v after : LiveView) (user page : ℕ) (answer : GlanceAnswer)
@@ -185,11 +185,11 @@ GlancesNow-leaves u v after user page answer turn (calls.refused fails a is) = s
 GlancesNow-leaves u v after user page answer turn (calls.plain shown s accepted plain a read is) =
     subst (LeavesLikes u) (sym (is ∙ ap (with_station v) read.read))
     (let now : WorkerSeatView = has_read v.station.post page shown.count (number_of s.post) in
-    still-leaves u v now.did now.logged v.station.held refl turn)
+    still-leaves u v now.did now.logged v.station.stash refl turn)
 GlancesNow-leaves u v after user page answer turn (calls.split shown s accepted split a glance is) =
     subst (LeavesLikes u) (sym (is ∙ ap (with_station v) glance.glanced))
     (let now : WorkerSeatView = has_glanced v.station.post page glance.count (number_of s.post) in
-    still-leaves u v now.did now.logged v.station.held refl turn)
+    still-leaves u v now.did now.logged v.station.stash refl turn)
 
 -- and it tells whether its page is split
 pub GlancesNow-tells : (v after : LiveView) (user page : ℕ) (answer : GlanceAnswer)

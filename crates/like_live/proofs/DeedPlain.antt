@@ -25,7 +25,7 @@ use Rattle.like_live.specs.Moves.{step_for, with_found}
 use Rattle.like_live.specs.Deeds.{Act, Deed, counted, deed, deed_now, deeds_found, glimpsed, made_since, showed}
 use Rattle.like_live.proofs.DeedTotals.{deed_in}
 use Rattle.like_live.proofs.Finding.{plain, running}
-use Rattle.like_live.proofs.Ordered.{IsOrdered, ordered_back, slices_split, split_in}
+use Rattle.like_live.proofs.Ordered.{IsOrdered, is_split_here, ordered_back, split_in}
 use Rattle.like_live.proofs.Running.{split_runs}
 use Rattle.like_live.proofs.Standing.{IsKept, Stands}
 use Rattle.like_live.proofs.Stepping.{Step, acknowledges, adds_like, done_by, finds, glances, holds, looks, next, reads, reports, retires, returns, slices_like, takes}
@@ -161,7 +161,7 @@ module _ (first : LiveView) (masks : ℕ → ℕ) where
       let here = k.split a.page (λ none. absurd (omega (arith, none, many, least))) in
       let is : split a.phase a.page ≡ true =
       ap (λ n. split n a.page) (All-head (λ (b : Addition). b.phase ≡ phase_at v.station) a adds phases)
-      ∙ sym (slices_split first masks v a.page k o (split_runs v.station.post.state runs))
+      ∙ sym (is_split_here first masks v a.page k o (split_runs v.station.post.state runs))
       ∙ here.1 in (
         (λ n page plain. apart a.phase a.page n page a.likes is plain),
         merges_none v k o runs adds (All-tail (λ (b : Addition). b.likes ≡ get_or v.station.slice b.page 0) a adds likes)
@@ -183,7 +183,7 @@ module _ (first : LiveView) (masks : ℕ → ℕ) where
       (found_plain entries found
       (λ i d below. let f = get_or found i d in
       ap (λ n. split n f.asked.page) (shown i d below).phase
-      ∙ sym (slices_split first masks v f.asked.page k before (running v.station.post.state joined))
+      ∙ sym (is_split_here first masks v f.asked.page k before (running v.station.post.state joined))
       ∙ plain v.station.post f.asked.page joined))
       h
   plain_next v (acknowledges joined) ds k o h = none v _ ds [] refl (λ n page under is. refl) h
@@ -203,7 +203,7 @@ module _ (first : LiveView) (masks : ℕ → ℕ) where
   plain_next v takes ds k o h = none v _ ds [] refl (λ n page under is. refl) h
   plain_next v (slices_like user page is) ds k o h =
       let before = ordered_back first masks v (slices_like user page is) k o in
-      let there = sym (slices_split first masks v page k before is.runs) ∙ is.at in
+      let there = sym (is_split_here first masks v page k before is.runs) ∙ is.at in
       more v _ ds (deed_now v user page counted ∷ []) [] refl
       (λ n other under not.
       let d = deed_now v user page counted in
@@ -216,7 +216,7 @@ module _ (first : LiveView) (masks : ℕ → ℕ) where
       (tt, tt) h
   plain_next v (reads user page shown number is last) ds k o h =
       let before = ordered_back first masks v (reads user page shown number is last) k o in
-      let there = sym (slices_split first masks v page k before is.runs) ∙ is.at in
+      let there = sym (is_split_here first masks v page k before is.runs) ∙ is.at in
       more v _ ds (deed number (phase_at v.station) user page (showed shown) ∷ []) (_ ∷ []) refl
       (λ n other under not.
       let a = nothing (nat_lt number under) (phase_at v.station == n) true in

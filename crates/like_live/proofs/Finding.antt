@@ -15,12 +15,12 @@ use Rattle.like_core.specs.Additions.{added_to}
 use Rattle.like_core.specs.PageSteps.{additions_among, page_step, then_steps}
 use Rattle.like_core.specs.declared.worker_state.WorkerState.{WorkerState}
 use Rattle.like_core.specs.declared.worker_state.WorkerState.TheVariants as state
-use Rattle.like_core.specs.Post.{has_read, number_of, slices}
+use Rattle.like_core.specs.Post.{has_read, is_split_at, number_of}
 use Rattle.like_core.specs.Phase.{IsJoined, is_hot_by, is_marked}
 use Rattle.like_core.specs.PhaseMasks.{mask_of}
 use Rattle.like_core.specs.WorkerState.{IsRunning, RunsJoined, RunsSplit, phase_of}
 use Rattle.like_tables.specs.Share.{owns}
-use Rattle.like_tables.specs.Waiting.{Waiting}
+use Rattle.like_tables.specs.StashView.{StashView}
 use Rattle.like_tables.specs.UserTable.{UserTable, last_of}
 use Rattle.like_core.proofs.Steps.{then-push}
 use Rattle.like_core.specs.declared.view.WorkerSeatView.{WorkerSeatView}
@@ -69,7 +69,7 @@ joined_phase (state.Answered k) h = absurd h
 joined_phase state.Gone h = absurd h
 
 -- no page is split in a joined phase
-pub plain : (post : WorkerSeatView) (page : ℕ) → RunsJoined post.state → slices post page ≡ false
+pub plain : (post : WorkerSeatView) (page : ℕ) → RunsJoined post.state → is_split_at post page ≡ false
 plain post page joined =
     let even = joined_phase post.state joined in
     and_left _ (is_marked post.opening.marks page || is_hot_by post.opening.limits.hot (mask_of post.masks (phase_of post.state)) page)
@@ -91,10 +91,10 @@ pub record Finding (v now : LiveView) : Type 0 where
       did = then_steps v.station.post.did (map (step_for v.station.post.worker) found);
       logged = now.station.post.logged;
     };
-    held = now.station.held;
+    stash = now.station.stash;
   }
   pub logs : LogsSteps (map (step_for v.station.post.worker) found) v.station.post.logged now.station.post.logged
-  pub capacity : now.station.held.capacity ≡ v.station.held.capacity
+  pub capacity : now.station.stash.capacity ≡ v.station.stash.capacity
   pub found_is : now.found ≡ v.found ++ found
 
 -- none is found at first
@@ -120,17 +120,17 @@ Finding-end v now f none = record {
   logs = f.logs;
 }
   where
-    at : Waiting Asked → StationView Asked
-    at held = record v.station {
+    at : StashView Asked → StationView Asked
+    at stash = record v.station {
       post = record v.station.post {
         did = then_steps v.station.post.did (map (step_for v.station.post.worker) f.found);
         logged = now.station.post.logged;
       };
-      held = held;
+      stash = stash;
     }
 
-    empty : at now.station.held ≡ at (record v.station.held { held = [] })
-    empty = λ m. at (record { held = none m; capacity = f.capacity m })
+    empty : at now.station.stash ≡ at (record v.station.stash { looks = [] })
+    empty = λ m. at (record { looks = none m; capacity = f.capacity m })
 
 -- the looks that wait still are the seat's
 pub Finding-own : (v now : LiveView) → Finding v now → All (IsOwn v.station) (waiting v) → All (IsOwn v.station) (waiting now)
@@ -169,9 +169,9 @@ pub Finding-more : (v now next : LiveView) (a : Asked) (f : Found) (number : ℕ
         did = step_for v.station.post.worker f ∷ now.station.post.did;
         logged = numbered number (Did (step_for v.station.post.worker f)) ∷ now.station.post.logged;
       };
-      held = next.station.held;
+      stash = next.station.stash;
     }
-    → next.station.held.capacity ≡ now.station.held.capacity
+    → next.station.stash.capacity ≡ now.station.stash.capacity
     → next.found ≡ now.found ++ f ∷ [] → Finding v next
 Finding-more v now next a f number d first is shown station capacity found = record {
   found = d.found ++ f ∷ [];
@@ -186,11 +186,11 @@ Finding-more v now next a f number d first is shown station capacity found = rec
       station
       ∙ ap (λ (t : StationView Asked). record t {
         post = record t.post { did = step_for v.station.post.worker f ∷ t.post.did; logged = entry ∷ now.station.post.logged };
-        held = next.station.held;
+        stash = next.station.stash;
       }) d.station
       ∙ (λ m. record v.station {
         post = record v.station.post { did = did m; logged = sym logged_is m };
-        held = next.station.held;
+        stash = next.station.stash;
       });
   logs = record {
     since = entry ∷ d.logs.since;
@@ -281,7 +281,7 @@ Finding-next v now s after found a seen phase d first is reads phase_is found_is
     let f : Found = record { asked = a; last = seen.last; count = seen.count; phase = phase } in
     Finding-more v now (record { station = after; found = found }) a f number d
     (first_of (waiting now) a first
-    ∙ ap (λ (xs : List Asked). a ∷ xs) (sym (ap (λ (t : StationView Asked). t.held.held) e)))
+    ∙ ap (λ (xs : List Asked). a ∷ xs) (sym (ap (λ (t : StationView Asked). t.stash.looks) e)))
     refl
     (record {
       last = reads.last ∙ ap (λ (t : UserTable). last_of t a.user) last;
@@ -293,9 +293,9 @@ Finding-next v now s after found a seen phase d first is reads phase_is found_is
         did = page_step (worker m) (state m) a.page seen.count Read ∷ now.station.post.did;
         logged = numbered number (Did (page_step (worker m) (state m) a.page seen.count Read)) ∷ now.station.post.logged;
       };
-      held = sym (ap (λ (t : StationView Asked). t.held) e) m;
+      stash = sym (ap (λ (t : StationView Asked). t.stash) e) m;
     }))
-    (ap (λ (t : StationView Asked). t.held.capacity) e)
+    (ap (λ (t : StationView Asked). t.stash.capacity) e)
     found_is
 
 -- who runs a phase runs a joined one or a split one

@@ -6,14 +6,14 @@ use Rattle.std.proofs.lemmas.List.FromFn.{length-map-range_with_len}
 use Rattle.std.proofs.lemmas.List.Sums.{sum_by-cons}
 use Rattle.like_core.specs.declared.worker_state.WorkerState.TheVariants as state
 use Rattle.like_core.specs.Additions.{added_to}
-use Rattle.like_core.specs.Post.{slices}
+use Rattle.like_core.specs.Post.{is_split_at}
 use Rattle.like_core.specs.PageSteps.{additions_among}
 use Rattle.like_core.specs.declared.view.WorkerSeatView.{WorkerSeatView}
 use Rattle.like_seat.specs.StationView.{phase_at}
 use Rattle.like_seat.proofs.MergedLikes.{same_everywhere}
 use Rattle.like_tables.specs.Share.{owns}
 use Rattle.like_tables.specs.UserTable.{UserTable, last_in, last_of}
-use Rattle.like_tables.specs.Waiting.{Waiting}
+use Rattle.like_tables.specs.StashView.{StashView}
 use Rattle.like_live.specs.declared.answer.GlanceAnswer.{GlanceAnswer}
 use Rattle.like_live.specs.declared.answer.LikeAnswer.{LikeAnswer}
 use Rattle.like_live.specs.declared.answer.LikeAnswer.TheVariants.{Liked}
@@ -50,14 +50,14 @@ told-like v after user page answer whole (calls.liked old s accepted few a count
         sized = c.sized ∙ whole.sized ∙ ap length (sym c.marks);
         table = ap (λ (t : UserTable). length t.last) c.last ∙ length-set v.station.last.last user (Some page)
             ∙ whole.table ∙ ap (λ (t : UserTable). t.share.users) (sym c.last);
-        empty = λ gone. ap (λ (w : Waiting Asked). w.held) c.held ∙ whole.empty (sym c.is_in ∙ gone);
+        empty = λ gone. ap (λ (w : StashView Asked). w.looks) c.stash ∙ whole.empty (sym c.is_in ∙ gone);
       });
       tallies = LikesNow-tallies v after user page answer whole.sized done;
       last = λ other.
           ap (λ (w : LiveView). last_of w.station.last other) is ∙ ap (λ (t : UserTable). last_of t other) c.last
           ∙ last-more v.station.last user page other there
           ∙ sym (ap (λ x. last_or (last_of v.station.last other) (page_liked other (like user page x))) a);
-      looks = ap looks_left is ∙ merged-looks v s c.held ∙ sym (append-nil (looks_left v));
+      looks = ap looks_left is ∙ merged-looks v s c.stash ∙ sym (append-nil (looks_left v));
     }
 
 -- and a like of a row
@@ -117,9 +117,9 @@ told-look v after user page tag answer whole (calls.waits accepted split room a 
     }))
   where
     -- no page is split for one that is gone
-    gone-plain : (post : WorkerSeatView) (page : ℕ) → post.state ≡ state.Gone → slices post page ≡ true → ⊥
+    gone-plain : (post : WorkerSeatView) (page : ℕ) → post.state ≡ state.Gone → is_split_at post page ≡ true → ⊥
     gone-plain post page gone split =
-        let e : slices post page ≡ false = ap (λ s. slices (record post { state = s }) page) gone in
+        let e : is_split_at post page ≡ false = ap (λ s. is_split_at (record post { state = s }) page) gone in
         absurd (cc (sym e ∙ split))
 
 -- a glance at a seat that runs a phase
@@ -265,7 +265,7 @@ whole_at_first v unused =
       table = ap (λ (t : UserTable). length t.last) new.last
           ∙ length-map-range_with_len (λ user. cond (owns unused.share user) (last_in unused.lasts user) None) 0 unused.share.users
           ∙ ap (λ (t : UserTable). t.share.users) (sym new.last);
-      empty = λ e. ap (λ (w : Waiting Asked). w.held) new.held;
+      empty = λ e. ap (λ (w : StashView Asked). w.looks) new.stash;
     }
 
 pub none_waits_once_gone : NoneWaitsOnceGone
@@ -276,7 +276,7 @@ pub histories_are_counted : HistoriesAreCounted
 histories_are_counted v after told unused done =
     let new = unused.new in
     let t = are_told told v after (whole_at_first v unused) done in
-    let nothing : looks_left v ≡ [] = λ m. map look_of (new.found m) ++ map look_waiting ((new.held m).held) in
+    let nothing : looks_left v ≡ [] = λ m. map look_of (new.found m) ++ map look_waiting ((new.stash m).looks) in
     record {
       tallies = λ page.
           let added : added_to page (additions_among v.station.post.did) ≡ 0 =

@@ -17,7 +17,7 @@ use Rattle.like_seat.specs.StationView.{IsStation, StationView, phase_at}
 use Rattle.like_seat.specs.Steps.{ComesBack, LooksAndEnters}
 use Rattle.like_tables.specs.Home.{Home}
 use Rattle.like_tables.specs.Share.{Share}
-use Rattle.like_tables.specs.Waiting.{Waiting}
+use Rattle.like_tables.specs.StashView.{StashView}
 use Rattle.like_live.specs.declared.asked.Asked.{Asked}
 use Rattle.like_live.specs.declared.asked.Found.{Found}
 use Rattle.like_live.specs.Kept.{AreLiveSeatParts, HasLooked}
@@ -47,7 +47,7 @@ pub all-none : {X : Type 0} (P : X → Type 0) (xs : List X) → xs ≡ [] → A
 all-none P xs none = subst (All P) (sym none) (All-nil P)
 
 -- a live seat's parts agree after a look by which it stays in its phase
-pub after-looked : (s u : StationView Asked) (found : Waiting Found) (home : Home) (pages : ℕ) (room : RoomView) (half : ℕ) (sight : Sight)
+pub after-looked : (s u : StationView Asked) (found : StashView Found) (home : Home) (pages : ℕ) (room : RoomView) (half : ℕ) (sight : Sight)
     → AreLiveSeatParts s found home pages room half
     → LooksAndEnters s sight u → phase_at u ≡ phase_at s
     → AreLiveSeatParts u found home pages room half
@@ -58,7 +58,7 @@ after-looked s u found home pages room half sight parts looks same =
     ap (λ (x : StationView Asked). phase_at x) (sym is) ∙ same in
     subst (λ x. AreLiveSeatParts x found home pages room half) (sym is) (record {
       live = record {
-        station = subst (λ x. IsStation x) is looks.seat;
+        station = subst (λ x. IsStation x) is looks.station;
         limits = live.limits;
         home = live.home;
         lasts = live.lasts;
@@ -77,7 +77,7 @@ after-looked s u found home pages room half sight parts looks same =
     })
 
 -- so they do if it is to wait
-pub after-waits : (s u : StationView Asked) (found : Waiting Found) (home : Home) (pages : ℕ) (room : RoomView) (half : ℕ) (sight : Sight)
+pub after-waits : (s u : StationView Asked) (found : StashView Found) (home : Home) (pages : ℕ) (room : RoomView) (half : ℕ) (sight : Sight)
     → AreLiveSeatParts s found home pages room half
     → LooksAndEnters s sight u → sight.waits ≡ true
     → AreLiveSeatParts u found home pages room half
@@ -86,7 +86,7 @@ after-waits s u found home pages room half sight parts looks waits =
     (ap (λ (x : StationView Asked). phase_at x) looks.looks.1 ∙ waits-phase s.post.state sight looks.sight waits)
 
 -- if it is not, it can do its phase work
-pub has-looked : (s u : StationView Asked) (found : Waiting Found) (home : Home) (pages : ℕ) (room : RoomView) (half : ℕ) (sight : Sight)
+pub has-looked : (s u : StationView Asked) (found : StashView Found) (home : Home) (pages : ℕ) (room : RoomView) (half : ℕ) (sight : Sight)
     → AreLiveSeatParts s found home pages room half
     → LooksAndEnters s sight u → sight.waits ≡ false
     → HasLooked u found
@@ -96,7 +96,7 @@ has-looked s u found home pages room half sight parts looks on =
     let phase = phase_of (seen s.post.state sight) in
     let at = on-phase s.post.state sight looks.sight on in
     subst (λ x. HasLooked x found) (sym is) (record {
-      station = subst (λ x. IsStation x) is looks.seat;
+      station = subst (λ x. IsStation x) is looks.station;
       runs = subst (λ (x : StationView Asked). IsRunning x.post.state) is (looks.runs on);
       limits = live.limits;
       home = live.home;
@@ -104,11 +104,11 @@ has-looked s u found home pages room half sight parts looks on =
       own = λ k d below. (let o = live.own k d below in record { there = o.there; owned = o.owned });
       asked = λ odd. elim at [
         | inl same ↦ λ k d below. live.asked k d below ∙ sym same
-        | inr next ↦ all-none (λ (a : Asked). a.phase ≡ phase) s.held.held (live.split (omega (arith, odd, next)))
+        | inr next ↦ all-none (λ (a : Asked). a.phase ≡ phase) s.stash.looks (live.split (omega (arith, odd, next)))
       ];
       before = λ even. elim at [
         | inl same ↦
-            all-none (λ (a : Asked). phase ≡ a.phase + 1) s.held.held (live.split (subst IsJoined same even))
+            all-none (λ (a : Asked). phase ≡ a.phase + 1) s.stash.looks (live.split (subst IsJoined same even))
         | inr next ↦ λ k d below. next ∙ ap (λ n. n + 1) (sym (live.asked k d below))
       ];
       next = live.next;
@@ -117,7 +117,7 @@ has-looked s u found home pages room half sight parts looks on =
     })
 
 -- in a split phase it is live
-pub looked-live : (s : StationView Asked) (found : Waiting Found)
+pub looked-live : (s : StationView Asked) (found : StashView Found)
     → HasLooked s found
     → IsSplit (phase_at s)
     → IsLive (live_of s found)
@@ -134,7 +134,7 @@ looked-live s found looked odd = record {
 }
 
 -- and stays so when it merges its slice and reports
-pub merged-live : (s t : StationView Asked) (found : Waiting Found)
+pub merged-live : (s t : StationView Asked) (found : StashView Found)
     → HasLooked s found
     → IsSplit (phase_at s)
     → MergesAndReports s t → IsStation t
@@ -158,16 +158,16 @@ merged-live s t found looked odd m kept =
     })
 
 -- in a joined one it is live once all that waited is found
-pub found-live : (s t : StationView Asked) (found now : Waiting Found)
+pub found-live : (s t : StationView Asked) (found now : StashView Found)
     → HasLooked s found
     → FindsAll (live_of s found) (live_of t now)
-    → All RanNext now.held → IsStation t
+    → All RanNext now.looks → IsStation t
     → IsLive (live_of t now)
 found-live s t found now looked finds next kept =
     let is = finds.rest in
-    let none : t.held.held ≡ [] = ap (λ (v : LiveView). waiting v) is in
-    let same : t.held.capacity ≡ s.held.capacity = ap (λ (v : LiveView). room_of v) is in
-    let more : now.held ≡ found.held ++ finds.found = ap (λ (v : LiveView). v.found) is in
+    let none : t.stash.looks ≡ [] = ap (λ (v : LiveView). waiting v) is in
+    let same : t.stash.capacity ≡ s.stash.capacity = ap (λ (v : LiveView). room_of v) is in
+    let more : now.looks ≡ found.looks ++ finds.found = ap (λ (v : LiveView). v.found) is in
     let asked : Found → Asked = λ f. f.asked in
     record {
       station = kept;
@@ -175,8 +175,8 @@ found-live s t found now looked finds next kept =
       home = subst (λ (x : Share). x.submitters ≡ x.workers) (sym (ap (λ (v : LiveView). v.station.last.share) is)) looked.home;
       lasts = subst (λ (v : LiveView). HasLastsWithin (pages_of v.station.post) v.station.last) (sym is) looked.lasts;
       split = λ joined. none;
-      own = all-none (IsOwn t) t.held.held none;
-      asked = all-none (λ (a : Asked). a.phase ≡ phase_at t) t.held.held none;
+      own = all-none (IsOwn t) t.stash.looks none;
+      asked = all-none (λ (a : Asked). a.phase ≡ phase_at t) t.stash.looks none;
       next = next;
       room =
           omega (
@@ -185,7 +185,7 @@ found-live s t found now looked finds next kept =
             same,
             ap (λ (xs : List Asked). length xs) none,
             ap (λ (xs : List Found). length xs) more,
-            length-append found.held finds.found,
+            length-append found.looks finds.found,
             ap (λ (xs : List Asked). length xs) finds.order,
             length-map finds.found asked,
           );
@@ -206,14 +206,14 @@ stopped-live v post live none same kept =
       home = live.home;
       lasts = subst (λ (o : Opening). HasLastsWithin (length o.marks) v.station.last) (sym same) live.lasts;
       split = λ joined. none;
-      own = all-none (IsOwn s) v.station.held.held none;
-      asked = all-none (λ (a : Asked). a.phase ≡ phase_at s) v.station.held.held none;
+      own = all-none (IsOwn s) v.station.stash.looks none;
+      asked = all-none (λ (a : Asked). a.phase ≡ phase_at s) v.station.stash.looks none;
       next = live.next;
       room = live.room;
     }
 
 -- and its parts agree after its phase work
-pub after-works : (s u t : StationView Asked) (found now : Waiting Found) (home : Home) (pages : ℕ) (room : RoomView) (half : ℕ) (sight : Sight)
+pub after-works : (s u t : StationView Asked) (found now : StashView Found) (home : Home) (pages : ℕ) (room : RoomView) (half : ℕ) (sight : Sight)
     → AreLiveSeatParts s found home pages room half
     → LooksAndEnters s sight u
     → Leaves (live_of u found) (live_of t now)
@@ -228,7 +228,7 @@ after-works s u t found now home pages room half sight parts looks leaves live c
     live capacity
 
 -- a live seat's parts agree after it came back
-pub after-back : (s u : StationView Asked) (found : Waiting Found) (home : Home) (pages : ℕ) (room : RoomView) (half : ℕ)
+pub after-back : (s u : StationView Asked) (found : StashView Found) (home : Home) (pages : ℕ) (room : RoomView) (half : ℕ)
     → AreLiveSeatParts s found home pages room half
     → s.post.state ≡ state.Gone → ComesBack s u → IsStation u
     → AreLiveSeatParts u found home pages room half
@@ -244,7 +244,7 @@ after-back s u found home pages room half parts gone back kept =
         lasts = live.lasts;
         split = λ joined. none;
         own = λ k d below. (let o = live.own k d below in record { there = o.there; owned = o.owned });
-        asked = all-none (λ (a : Asked). a.phase ≡ back.0) s.held.held none;
+        asked = all-none (λ (a : Asked). a.phase ≡ back.0) s.stash.looks none;
         next = live.next;
         room = live.room;
       };

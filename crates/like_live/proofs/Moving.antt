@@ -14,7 +14,7 @@ use Rattle.like_live.specs.Kept.{AreLiveSeatParts}
 use Rattle.like_live.specs.LiveView.{IsLive, IsSameSeat, KeepsTallies, LiveView, live_of, room_of, waiting, with_station}
 use Rattle.like_live.specs.LookRoom.{RoomView}
 use Rattle.like_tables.specs.Home.{Home, IsHomeOf}
-use Rattle.like_tables.specs.Waiting.{Waiting}
+use Rattle.like_tables.specs.StashView.{StashView}
 use Rattle.like_seat.specs.Steps.{came_back}
 use Rattle.like_live.specs.Calls as calls
 use Rattle.like_live.specs.Calls.{ComeBackCase, RetireCase, RetireWorks, retired_seat, retires, stays}
@@ -198,7 +198,7 @@ Leaves-come_back v after answer sized (calls.between gone a is) = subst (Leaves 
 Leaves-come_back v after answer sized (calls.there here m) = Leaves-moves v after answer sized m
 
 -- a live seat's parts agree after what leaves all that, if it is live then
-pub after-leaves : (s t : StationView Asked) (found now : Waiting Found) (home : Home) (pages : ℕ) (room : RoomView) (half : ℕ)
+pub after-leaves : (s t : StationView Asked) (found now : StashView Found) (home : Home) (pages : ℕ) (room : RoomView) (half : ℕ)
     → AreLiveSeatParts s found home pages room half
     → Leaves (live_of s found) (live_of t now)
     → IsLive (live_of t now)

@@ -13,7 +13,7 @@ use Rattle.like_core.specs.Additions.{added_to}
 use Rattle.like_core.specs.PageSteps.{AddsSome, earliest_first, step_adding}
 use Rattle.like_core.specs.Phase.{IsSplit, is_marked, split_by}
 use Rattle.like_core.specs.PhaseMasks.{AreMasksOf, KeepsMasks}
-use Rattle.like_core.specs.Post.{slices}
+use Rattle.like_core.specs.Post.{is_split_at}
 use Rattle.like_core.specs.WorkerState.{IsRunning, RunsSplit, phase_of, seen}
 use Rattle.like_core.proofs.PhaseMasks.{masks-before, split-known}
 use Rattle.like_core.proofs.Steps.{then-earliest}
@@ -185,9 +185,9 @@ module _ (first : LiveView) (masks : ℕ → ℕ) where
       record { some = o.some; right = o.right; rises = o.rises; none_later = o.none_later }
 
   -- whether a seat slices a page in the phase that it runs is whether the page is split in that phase
-  pub slices_split : (v : LiveView) (page : ℕ) → Stands first v → IsOrdered masks v → IsRunning v.station.post.state
-      → slices v.station.post page ≡ split_in first masks (phase_at v.station) page
-  slices_split v page k o runs =
+  pub is_split_here : (v : LiveView) (page : ℕ) → Stands first v → IsOrdered masks v → IsRunning v.station.post.state
+      → is_split_at v.station.post page ≡ split_in first masks (phase_at v.station) page
+  is_split_here v page k o runs =
       sym (split-known v.station.post.opening.limits.hot (is_marked v.station.post.opening.marks) masks v.station.post.masks (phase_at v.station) page
       o.right (λ odd plain hot. k.masked (runs_odd v.station.post.state runs odd)))
       ∙ (λ m. split_by (k.limits m).hot (is_marked (k.marks m)) masks (phase_at v.station) page) where

@@ -21,13 +21,13 @@ use Rattle.like_seat.specs.StationView.{IsStation, StationView, phase_at, likes_
 use Rattle.like_tables.specs.Home.{Home}
 use Rattle.like_tables.specs.Share.{Share, owns}
 use Rattle.like_seat.specs.SlicedLike.{SlicedLike}
-use Rattle.like_seat.specs.Steps.{CountsLike, Glances, Reads, holding, liked_last, sliced, with_addition}
+use Rattle.like_seat.specs.Steps.{CountsLike, Glances, Reads, liked_last, sliced, stashing, with_addition}
 use Rattle.like_tables.specs.UserTable.{with_last}
-use Rattle.like_tables.specs.declared.placed.Placed.{Placed}
-use Rattle.like_tables.specs.Waiting.{Waiting}
+use Rattle.like_tables.specs.declared.ranked.Ranked.{Ranked}
+use Rattle.like_tables.specs.StashView.{StashView}
 use Rattle.like_live.specs.declared.asked.Asked.{Asked}
 use Rattle.like_live.specs.declared.asked.Found.{Found}
-use Rattle.like_live.specs.Calls.{IsAccepted, PutsBy, verdict_at}
+use Rattle.like_live.specs.Calls.{IsAccepted, Stashes, verdict_at}
 use Rattle.like_live.specs.Kept.{AreLiveSeatParts}
 use Rattle.like_live.specs.LiveView.{HasLastsWithin, IsOwn, LiveView, RanNext, live_of}
 use Rattle.like_live.specs.LookRoom.{RoomView}
@@ -80,14 +80,14 @@ likes-most s limits =
     let most : s.post.opening.limits.likes ≡ 2 ^ 56 = ap (λ l. l.likes) limits in
     omega arith
 
--- a request that a live seat accepts is accepted at its worker's seat, as one of the user with the place
-pub accepted_in : (v : LiveView) (s t : StationView Asked) (found : Waiting Found) (user page : ℕ) (placed : Placed)
+-- a request that a live seat accepts is accepted at its worker's seat, as one of the user with the rank
+pub accepted_in : (v : LiveView) (s t : StationView Asked) (found : StashView Found) (user page : ℕ) (ranked : Ranked)
     → live_of s found ≡ v → t ≡ s
-    → IsAccepted v.station user page placed
-    → IsAccepted t placed.user page placed
-accepted_in v s t found user page placed is same a =
-    subst (λ x. IsAccepted x placed.user page placed) (sym (same ∙ ap (λ (w : LiveView). w.station) is))
-    (subst (λ u. IsAccepted v.station u page placed) (sym a.user_is) a)
+    → IsAccepted v.station user page ranked
+    → IsAccepted t ranked.user page ranked
+accepted_in v s t found user page ranked is same a =
+    subst (λ x. IsAccepted x ranked.user page ranked) (sym (same ∙ ap (λ (w : LiveView). w.station) is))
+    (subst (λ u. IsAccepted v.station u page ranked) (sym a.user_is) a)
 
 -- the seat with these additions, slice, likes that went into it, and last likes
 abbrev liked_in : StationView Asked → List PageStep → List Logged → List ℕ → List SlicedLike → List (Option ℕ)
@@ -100,7 +100,7 @@ liked_in s did logged slice likes lasts = record s {
 }
 
 -- a live seat's parts agree as before, where nothing changed but what a like changes and it is a seat still
-after-like : (s : StationView Asked) (found : Waiting Found) (home : Home) (pages : ℕ) (room : RoomView) (half : ℕ)
+after-like : (s : StationView Asked) (found : StashView Found) (home : Home) (pages : ℕ) (room : RoomView) (half : ℕ)
     (did : List PageStep) (logged : List Logged) (slice : List ℕ) (likes : List SlicedLike) (lasts : List (Option ℕ))
     → AreLiveSeatParts s found home pages room half
     → HasLastsWithin (pages_of s.post) (record s.last { last = lasts })
@@ -129,7 +129,7 @@ after-like s found home pages room half did logged slice likes lasts parts withi
     }
 
 -- so they do after a like that is counted
-pub after-counted : (s t : StationView Asked) (found : Waiting Found) (home : Home)
+pub after-counted : (s t : StationView Asked) (found : StashView Found) (home : Home)
     (pages : ℕ) (room : RoomView) (half user page : ℕ) (old : Option ℕ)
     → AreLiveSeatParts s found home pages room half
     → page < pages_of s.post
@@ -152,7 +152,7 @@ after-counted s t found home pages room half user page (Some count) parts there 
     (subst (λ x. IsStation x) c.1 kept))
 
 -- so they do after a seat has some other reads and glances, and has done something else at pages
-after-shown : (s t : StationView Asked) (found : Waiting Found) (home : Home) (pages : ℕ) (room : RoomView) (half : ℕ)
+after-shown : (s t : StationView Asked) (found : StashView Found) (home : Home) (pages : ℕ) (room : RoomView) (half : ℕ)
     (did : List PageStep) (logged : List Logged)
     → AreLiveSeatParts s found home pages room half
     → t ≡ record s { post = record s.post { did = did; logged = logged } }
@@ -181,7 +181,7 @@ after-shown s t found home pages room half did logged parts is kept =
     })
 
 -- as after a read
-pub after-read : (s t : StationView Asked) (found : Waiting Found) (home : Home) (pages : ℕ) (room : RoomView) (half user page : ℕ)
+pub after-read : (s t : StationView Asked) (found : StashView Found) (home : Home) (pages : ℕ) (room : RoomView) (half user page : ℕ)
     (shown : Seen)
     → AreLiveSeatParts s found home pages room half
     → Reads s user page shown t
@@ -192,7 +192,7 @@ after-read s t found home pages room half user page shown parts r kept =
     after-shown s t found home pages room half now.did now.logged parts r.read kept
 
 -- and after a glance
-pub after-glanced : (s t : StationView Asked) (found : Waiting Found) (home : Home) (pages : ℕ) (room : RoomView) (half user page : ℕ)
+pub after-glanced : (s t : StationView Asked) (found : StashView Found) (home : Home) (pages : ℕ) (room : RoomView) (half user page : ℕ)
     (shown : Seen)
     → AreLiveSeatParts s found home pages room half
     → Glances s user page shown t
@@ -209,16 +209,16 @@ not-joined (state.Answered k) h even = absurd h
 not-joined state.Gone h even = absurd h
 
 -- a live seat's parts agree after one look more was put by, for which there was room
-pub after-held : (s t : StationView Asked) (found : Waiting Found) (home : Home) (pages : ℕ) (room left : RoomView) (half : ℕ) (a : Asked)
+pub after-stashed : (s t : StationView Asked) (found : StashView Found) (home : Home) (pages : ℕ) (room left : RoomView) (half : ℕ) (a : Asked)
     → AreLiveSeatParts s found home pages room half
     → RunsSplit s.post.state → IsOwn s a → a.phase ≡ phase_at s
     → room.left ≡ left.left + 1
-    → (0 < left.free → left.free + length s.held.held + 1 + half < s.held.capacity)
-    → t ≡ holding s a → IsStation t
+    → (0 < left.free → left.free + length s.stash.looks + 1 + half < s.stash.capacity)
+    → t ≡ stashing s a → IsStation t
     → AreLiveSeatParts t found home pages left half
-after-held s t found home pages room left half a parts split own asked one early is kept =
+after-stashed s t found home pages room left half a parts split own asked one early is kept =
     let live = parts.live in
-    let more = length_push s.held.held a in
+    let more = length_push s.stash.looks a in
     subst (λ x. AreLiveSeatParts x found home pages left half) (sym is) (record {
       live = record {
         station = subst (λ x. IsStation x) is kept;
@@ -226,10 +226,10 @@ after-held s t found home pages room left half a parts split own asked one early
         home = live.home;
         lasts = live.lasts;
         split = λ joined. absurd (not-joined s.post.state split joined);
-        own = All-push (IsOwn (holding s a)) s.held.held a
+        own = All-push (IsOwn (stashing s a)) s.stash.looks a
             (λ k d below. (let o = live.own k d below in record { there = o.there; owned = o.owned }))
             (record { there = own.there; owned = own.owned });
-        asked = All-push (λ (x : Asked). x.phase ≡ phase_at s) s.held.held a live.asked asked;
+        asked = All-push (λ (x : Asked). x.phase ≡ phase_at s) s.stash.looks a live.asked asked;
         next = live.next;
         room = omega (arith, parts.room_is, more, one);
       };
@@ -242,21 +242,21 @@ after-held s t found home pages room left half a parts split own asked one early
     })
 
 -- and the look is put by
-pub puts-by : (v : LiveView) (s t : StationView Asked) (found : Waiting Found) (home : Home) (pages : ℕ) (room : RoomView) (half : ℕ) (a : Asked)
+pub stashes : (v : LiveView) (s t : StationView Asked) (found : StashView Found) (home : Home) (pages : ℕ) (room : RoomView) (half : ℕ) (a : Asked)
     → AreLiveSeatParts s found home pages room half
-    → live_of s found ≡ v → 0 < room.left → t ≡ holding s a
-    → PutsBy v a (live_of t found)
-puts-by v s t found home pages room half a parts same some is =
-    subst (λ (w : LiveView). PutsBy w a (live_of t found)) same (record {
+    → live_of s found ≡ v → 0 < room.left → t ≡ stashing s a
+    → Stashes v a (live_of t found)
+stashes v s t found home pages room half a parts same some is =
+    subst (λ (w : LiveView). Stashes w a (live_of t found)) same (record {
       room = omega (arith, parts.room_is, some);
       is = ap (λ (x : StationView Asked). live_of x found) is;
     })
 
 -- a live seat's parts agree after the first of the found looks was taken, which leaves room for one more if there was one
-pub after-taken : (s : StationView Asked) (found now : Waiting Found) (home : Home) (pages : ℕ) (room left : RoomView) (half : ℕ)
+pub after-taken : (s : StationView Asked) (found now : StashView Found) (home : Home) (pages : ℕ) (room left : RoomView) (half : ℕ)
     → AreLiveSeatParts s found home pages room half
-    → now ≡ record found { held = drop 1 found.held }
-    → left.left + length (drop 1 found.held) ≡ room.left + length found.held → left.free ≡ room.free
+    → now ≡ record found { looks = drop 1 found.looks }
+    → left.left + length (drop 1 found.looks) ≡ room.left + length found.looks → left.free ≡ room.free
     → AreLiveSeatParts s now home pages left half
 after-taken s found now home pages room left half parts is more free =
     let live = parts.live in
@@ -269,8 +269,8 @@ after-taken s found now home pages room left half parts is more free =
         split = live.split;
         own = live.own;
         asked = live.asked;
-        next = All-drop RanNext 1 found.held live.next;
-        room = omega (arith, live.room, length-drop 1 found.held);
+        next = All-drop RanNext 1 found.looks live.next;
+        room = omega (arith, live.room, length-drop 1 found.looks);
       };
       capacity = parts.capacity;
       home_is = parts.home_is;

@@ -5,7 +5,7 @@ use Rattle.like_core.specs.declared.worker_state.WorkerState.TheVariants.{Runs, 
 use Rattle.like_core.specs.declared.view.WorkerSeatView.{WorkerSeatView}
 use Rattle.like_core.specs.Phase.{IsSplit, is_hot_by, is_marked}
 use Rattle.like_core.specs.PhaseMasks.{mask_of}
-use Rattle.like_core.specs.Post.{slices}
+use Rattle.like_core.specs.Post.{is_split_at}
 use Rattle.like_core.specs.WorkerState.{IsRunning, RunsJoined, RunsSplit, phase_of}
 
 -- who runs a split phase runs a phase
@@ -25,7 +25,7 @@ split_odd : (a b : Bool) → (a && b) ≡ true → a ≡ true
 split_odd true b e = refl
 split_odd false b e = cc
 
-pub runs_split : (post : WorkerSeatView) (page : ℕ) → IsRunning post.state → slices post page ≡ true → RunsSplit post.state
+pub runs_split : (post : WorkerSeatView) (page : ℕ) → IsRunning post.state → is_split_at post page ≡ true → RunsSplit post.state
 runs_split post page runs is =
     by_state post.state runs
     (eqb-true (phase_of post.state % 2) 1

@@ -9,7 +9,7 @@ use Rattle.like_core.specs.declared.worker_state.WorkerState.{WorkerState}
 use Rattle.like_core.specs.declared.worker_state.WorkerState.TheVariants as state
 use Rattle.like_core.specs.Additions.{added_in}
 use Rattle.like_core.specs.Phase.{IsSplit}
-use Rattle.like_core.specs.Post.{slices}
+use Rattle.like_core.specs.Post.{is_split_at}
 use Rattle.like_core.specs.WorkerState.{IsRunning, RunsSplit, phase_of}
 use Rattle.like_core.specs.PageSteps.{additions_among}
 use Rattle.like_core.specs.declared.view.WorkerSeatView.{WorkerSeatView}
@@ -74,12 +74,12 @@ runs_this (state.Answered k) h = absurd h
 runs_this state.Gone h = absurd h
 
 -- a page is split in a split phase alone
-pub split_phase : (post : WorkerSeatView) (page : ℕ) → slices post page ≡ true → IsSplit (phase_of post.state)
+pub split_phase : (post : WorkerSeatView) (page : ℕ) → is_split_at post page ≡ true → IsSplit (phase_of post.state)
 split_phase post page split = eqb-true _ _ ((and_parts _ _ split).0)
 
 -- right after a glance at a split page: what it was told is a count on the board and the slice, which is held
 pub record IsJustGlanced (now : LiveView) (s : Shown) : Type 0 where
-  pub split : slices now.station.post s.page ≡ true
+  pub split : is_split_at now.station.post s.page ≡ true
   pub earlier : List PageStep
   pub board : ℕ
   pub glanced : HasCalled now s.phase s.page board Glance [] earlier
@@ -89,7 +89,7 @@ pub record IsJustGlanced (now : LiveView) (s : Shown) : Type 0 where
 
 -- what a seat has counted in its phase, by whether the page is split
 counted-is : (v : LiveView) (page : ℕ) (split : Bool)
-    → slices v.station.post page ≡ split
+    → is_split_at v.station.post page ≡ split
     → counted_now v page
     ≡ added_in (phase_at v.station) page (additions_among v.station.post.did) + cond split (get_or v.station.slice page 0) 0
 counted-is v page split is =

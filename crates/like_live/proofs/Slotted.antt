@@ -14,17 +14,17 @@ use Rattle.like_core.specs.Functions.{has_bit}
 use Rattle.like_core.specs.OpeningLimits.{service_limits}
 use Rattle.like_core.specs.Phase.{IsSplit, is_marked, split_by}
 use Rattle.like_core.specs.PhaseMasks.{mask_of}
-use Rattle.like_core.specs.Post.{KnowsSlices, slices}
+use Rattle.like_core.specs.Post.{KnowsSplit, is_split_at}
 use Rattle.like_core.specs.WorkerState.{IsRunning, RunsSplit}
 use Rattle.like_core.specs.views.Shows.{FitsCoord, Moment}
 use Rattle.like_core.proofs.Slots.{slots_tell}
 use Rattle.like_core.proofs.core.Moved.{reached_is_exclusive}
-use Rattle.like_core.proofs.views.SplitPages.{slices_are_split}
+use Rattle.like_core.proofs.views.SplitPages.{split_pages_agree}
 use Rattle.like_seat.proofs.Moments.{state_at}
 use Rattle.like_limits.specs.Limits.{hot_pages}
 use Rattle.like_choice.specs.Slots.{SlotsView}
 use Rattle.like_live.specs.Driver.{DriverView, IsService}
-use Rattle.like_live.specs.Moments.{MarkedKeepSlots, SlicesAreSlots}
+use Rattle.like_live.specs.Moments.{MarkedKeepSlots, SplitPagesAreSlots}
 use Rattle.like_live.specs.Splits.{slots_mask}
 use Rattle.like_live.proofs.Moments.{split-now}
 use Rattle.like_live.proofs.Turning.{last-split}
@@ -65,8 +65,8 @@ plain-split limits phase page many hot is odd below few =
     let is_below : nat_lt page limits.hot ≡ true = lt-ltb page limits.hot (omega (arith, hot_is, below, few)) in
     λ m. is_odd m && (none m || (is_below m && has_bit (hot phase) page))
 
-pub slices_are_slots : SlicesAreSlots
-slices_are_slots z m v s driver service at station split page there =
+pub split_pages_are_slots : SplitPagesAreSlots
+split_pages_are_slots z m v s driver service at station split page there =
     let c : CoordSeatView = v.lead.seat in
     let fits : FitsCoord z m.shown.state c = m.shown.shows.seats.each 0 (Coord c) driver in
     let opening : c.opening ≡ z = fits.seats.opening in
@@ -78,9 +78,9 @@ slices_are_slots z m v s driver service at station split page there =
     let p = (reached_is_exclusive z m.shown.state m.shown.reachable).1 in
     let is = state_at z m s.station.post at in
     let odd : IsSplit m.shown.state.phase = split-now z m.shown.state s.station.post.worker _ p is split in
-    let knows : KnowsSlices s.station.post page = λ _ _ _. station.masked split in
-    let same : slices s.station.post page ≡ has_bit (slots_mask v.splits.slots) page =
-    slices_are_split z m at.place s.station.post page at.there (running s.station.post.state split) knows
+    let knows : KnowsSplit s.station.post page = λ _ _ _. station.masked split in
+    let same : is_split_at s.station.post page ≡ has_bit (slots_mask v.splits.slots) page =
+    split_pages_agree z m at.place s.station.post page at.there (running s.station.post.state split) knows
     ∙ ap (λ (marks : List Bool). split_by z.limits.hot (is_marked marks) m.shown.state.hot m.shown.state.phase page) plain
     ∙ plain-split z.limits m.shown.state.phase page (length z.counts) m.shown.state.hot limits odd there few
     ∙ ap (λ n. has_bit n page) (mask-slots z m v driver service odd) in

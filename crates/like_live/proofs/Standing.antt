@@ -9,7 +9,7 @@ use Rattle.like_core.specs.declared.worker_state.WorkerState.{WorkerState}
 use Rattle.like_core.specs.declared.worker_state.WorkerState.TheVariants.{Runs}
 use Rattle.like_core.specs.Phase.{IsSplit}
 use Rattle.like_core.specs.PhaseMasks.{HasMask}
-use Rattle.like_core.specs.Post.{pages_of, slices}
+use Rattle.like_core.specs.Post.{is_split_at, pages_of}
 use Rattle.like_core.specs.WorkerState.{RunsSplit}
 use Rattle.like_core.specs.declared.view.WorkerSeatView.{WorkerSeatView}
 use Rattle.like_requests.specs.declared.verdict.Verdict.TheVariants.{Accepted}
@@ -21,7 +21,7 @@ use Rattle.like_seat.proofs.MergedLikes.{same_everywhere}
 use Rattle.like_serial.proofs.Phases.{all_append}
 use Rattle.like_tables.specs.Share.{owns}
 use Rattle.like_tables.specs.UserTable.{UserTable, last_in}
-use Rattle.like_tables.specs.Waiting.{Waiting}
+use Rattle.like_tables.specs.StashView.{StashView}
 use Rattle.like_live.specs.declared.asked.Asked.{Asked}
 use Rattle.like_live.specs.LiveView.{LiveView, waiting}
 use Rattle.like_live.specs.Calls.{verdict_at}
@@ -64,9 +64,9 @@ entered_mask masks phase mask odd =
 
 -- one like more of a page that is split
 one_more : (post : WorkerSeatView) (slice : List ℕ) (page n : ℕ) → IsSliceInSplit post slice → RunsSplit post.state
-    → slices post page ≡ true → IsSliceInSplit post (set slice page n)
+    → is_split_at post page ≡ true → IsSliceInSplit post (set slice page n)
 one_more post slice page n kept runs split other some = elim (cases_eq page other) [
-  | inl same ↦ (runs, ap (slices post) (sym same) ∙ split)
+  | inl same ↦ (runs, ap (is_split_at post) (sym same) ∙ split)
   | inr apart ↦ kept other (λ none. some (get_or-set_other slice page other n 0 (λ e. apart (sym e)) ∙ none))
 ]
 
@@ -222,7 +222,7 @@ stands_at_first v unused =
           (ap (λ (p : WorkerSeatView). p.state) (new.at_post ∙ unused.fresh)) split);
       split = λ page some. absurd (some (ap (λ (xs : List ℕ). get_or xs page 0) new.slice ∙ same_everywhere _ page 0));
       own = subst (AllByRecursion (λ a. IsHis v a.user))
-          (sym (ap (λ (w : Waiting Asked). w.held) new.held)) tt;
+          (sym (ap (λ (w : StashView Asked). w.looks) new.stash)) tt;
     }
   where
     joined_first : (s : WorkerState) → s ≡ Runs 0 → RunsSplit s → ⊥

@@ -7,14 +7,14 @@ use Rattle.like_core.specs.PageSteps.{step_adding}
 use Rattle.like_core.specs.declared.sight.Sight.{Sight}
 use Rattle.like_core.specs.declared.view.Addition.{Addition}
 use Rattle.like_core.specs.declared.worker_state.WorkerState.TheVariants.{Runs, Answered, Gone}
-use Rattle.like_core.specs.Post.{answered, has_glanced, has_read, slices}
+use Rattle.like_core.specs.Post.{answered, has_glanced, has_read, is_split_at}
 use Rattle.like_core.specs.declared.worker_state.WorkerState.{WorkerState}
 use Rattle.like_core.specs.WorkerState.{IsRunning, IsSightOf, RunsJoined, RunsSplit, phase_of, seen}
 use Rattle.like_requests.specs.declared.verdict.Verdict.TheVariants.{Accepted}
 use Rattle.like_seat.specs.declared.seen.Seen.{Seen}
 use Rattle.like_seat.specs.Merge.{LogsSteps, MergesAll, merged}
 use Rattle.like_seat.specs.StationView.{phase_at}
-use Rattle.like_seat.specs.Steps.{came_back, holding, liked_last, sliced, with_addition}
+use Rattle.like_seat.specs.Steps.{came_back, liked_last, sliced, stashing, with_addition}
 use Rattle.like_tables.specs.UserTable.{last_of}
 use Rattle.like_live.specs.declared.asked.Found.{Found}
 use Rattle.like_live.specs.LiveView.{LiveView, waiting, with_station}
@@ -44,7 +44,7 @@ reported v adds logged =
 pub record IsRequest (v : LiveView) (user page : ℕ) (split : Bool) : Type 0 where
   pub runs : IsRunning v.station.post.state
   pub accepted : verdict_at v.station user page ≡ Accepted
-  pub at : slices v.station.post page ≡ split
+  pub at : is_split_at v.station.post page ≡ split
 
 -- a step of a seat: what it does, and what is known then
 pub data Step (v : LiveView) : Type 0 where
@@ -83,7 +83,7 @@ next v (reads user page shown number is last) =
     with_station v (record v.station { post = has_read v.station.post page shown.count number })
 next v (glances user page count shown number is last) =
     with_station v (record v.station { post = has_glanced v.station.post page count number })
-next v (holds user page tag is) = with_station v (holding v.station (asked_in (phase_at v.station) user page tag))
+next v (holds user page tag is) = with_station v (stashing v.station (asked_in (phase_at v.station) user page tag))
 
 -- the deeds that it is
 abbrev pub done_by : (v : LiveView) → Step v → List Deed

@@ -127,8 +127,8 @@ finds-looks v after f =
     ∙ map-append look_of v.found f.found
     ∙ ap (λ xs. map look_of v.found ++ xs) (looks-found f.found ∙ ap (map look_waiting) f.order)
 
-pub merged-looks : (v : LiveView) (s : StationView Asked) → s.held ≡ v.station.held → looks_left (with_station v s) ≡ looks_left v
-merged-looks v s held = ap (λ h. map look_of v.found ++ map look_waiting h.held) held
+pub merged-looks : (v : LiveView) (s : StationView Asked) → s.stash ≡ v.station.stash → looks_left (with_station v s) ≡ looks_left v
+merged-looks v s stash = ap (λ h. map look_of v.found ++ map look_waiting h.stash) stash
 
 works-looks : (v after : LiveView) (ending : Bool) (answer : TurnAnswer)
     → Works v ending answer after
@@ -139,7 +139,7 @@ works-looks v after ending answer (moves.runs_split split e a is) = ap looks_lef
 works-looks v after ending answer (moves.reports s split e a merges is) =
     ap looks_left is
     ∙ merged-looks v s
-    (ap (λ (t : StationView Asked). t.held) merges.1.1 ∙ ap (λ (t : StationView Asked). t.held) merges.1.0.1.1)
+    (ap (λ (t : StationView Asked). t.stash) merges.1.1 ∙ ap (λ (t : StationView Asked). t.stash) merges.1.0.1.1)
 
 retire_works-looks : (v after : LiveView) (ending : Bool) (answer : TurnAnswer)
     → RetireWorks v ending answer after
@@ -220,17 +220,17 @@ pub IsQuiet-come_back : (v after : LiveView) (answer : TurnAnswer)
     → IsQuiet v after
 IsQuiet-come_back v after answer whole (calls.runs s gone a back is) =
     let l = Leaves-come_back v after answer whole.sized (calls.runs s gone a back is) in
-    let held = is ∙ ap (with_station v) back.1.1 in
+    let came = is ∙ ap (with_station v) back.1.1 in
     record {
       whole = record {
         sized = l.sized ∙ whole.sized ∙ ap length (sym l.same.marks);
         table = ap (λ (t : UserTable). length t.last) l.last ∙ whole.table
             ∙ ap (λ (t : UserTable). t.share.users) (sym l.last);
-        empty = λ other. ap waiting held ∙ whole.empty gone;
+        empty = λ other. ap waiting came ∙ whole.empty gone;
       };
       tallies = l.tallies;
       last = l.last;
-      looks = ap looks_left held;
+      looks = ap looks_left stash;
     }
 IsQuiet-come_back v after answer whole (calls.between gone a is) = subst (IsQuiet v) (sym is) (IsQuiet-same v whole)
 IsQuiet-come_back v after answer whole (calls.there here m) = IsQuiet-moves v after answer whole m
@@ -257,7 +257,7 @@ last-more t user page other there =
 
 -- what a like that is counted leaves
 pub record IsCounted (s after : StationView Asked) (user page : ℕ) : Type 0 where
-  pub held : after.held ≡ s.held
+  pub stash : after.stash ≡ s.stash
   pub last : after.last ≡ with_last s.last user page
   pub is_in : after.post.state ≡ s.post.state
   pub marks : after.post.opening.marks ≡ s.post.opening.marks
@@ -267,14 +267,14 @@ pub is_counted : (s after : StationView Asked) (user page : ℕ) (old : Option �
     → CountsLike s user page old after
     → IsCounted s after user page
 is_counted s after user page None c = record {
-  held = ap (λ (t : StationView Asked). t.held) c.1;
+  stash = ap (λ (t : StationView Asked). t.stash) c.1;
   last = ap (λ (t : StationView Asked). t.last) c.1;
   is_in = ap (λ (t : StationView Asked). t.post.state) c.1;
   marks = ap (λ (t : StationView Asked). t.post.opening.marks) c.1;
   sized = ap (λ (t : StationView Asked). length t.slice) c.1 ∙ length-set s.slice page _;
 }
 is_counted s after user page (Some count) c = record {
-  held = ap (λ (t : StationView Asked). t.held) c.1;
+  stash = ap (λ (t : StationView Asked). t.stash) c.1;
   last = ap (λ (t : StationView Asked). t.last) c.1;
   is_in = ap (λ (t : StationView Asked). t.post.state) c.1;
   marks = ap (λ (t : StationView Asked). t.post.opening.marks) c.1;

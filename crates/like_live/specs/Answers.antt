@@ -5,7 +5,7 @@ use Rattle.like_core.specs.declared.page_step.PageCall.TheVariants.{Glance, Read
 use Rattle.like_core.specs.declared.page_step.PageStep.{PageStep}
 use Rattle.like_core.specs.declared.worker_state.WorkerState.TheVariants.{Runs}
 use Rattle.like_core.specs.Additions.{added_in}
-use Rattle.like_core.specs.Post.{additions_in, slices}
+use Rattle.like_core.specs.Post.{additions_in, is_split_at}
 use Rattle.like_core.specs.PageSteps.{additions_among, page_step}
 use Rattle.like_core.specs.views.Posts.{posts_before}
 use Rattle.like_seat.specs.StationView.{phase_at}
@@ -30,7 +30,7 @@ pub record Shown : Type 0 where
 abbrev pub counted_now : LiveView → ℕ → ℕ
 counted_now v page =
     additions_in v.station.post (phase_at v.station) page
-    + (if slices v.station.post page then slice_index v.station.slice page else 0)
+    + (if is_split_at v.station.post page then slice_index v.station.slice page else 0)
 
 -- a count of a page that a call was told, if this is the seat right after the call
 abbrev pub shown_now : LiveView → (page count : ℕ) → Shown
@@ -72,7 +72,7 @@ AreKept v phase page later n =
 -- likes of the page in the seat's slice, which are kept. The seat's own likes were added before the glance, or are in
 -- that slice
 pub record IsGlanced (now v : LiveView) (s : Shown) : Type 0 where
-  pub split : slices now.station.post s.page ≡ true
+  pub split : is_split_at now.station.post s.page ≡ true
   pub later : List PageStep
   pub earlier : List PageStep
   pub board : ℕ

@@ -1,6 +1,6 @@
 -- The calls of a live seat, case by case.
 use Rattle.std.specs.Prelude.{◌≡◌, ◌≢◌, ℕ, ◌+◌, ◌<◌, ◌==◌, nat_lt, if◌then◌else◌, Bool, true, false, drop, length, slice_get, Option}
-use Rattle.like_core.specs.Post.{pages_of, retired, slices}
+use Rattle.like_core.specs.Post.{is_split_at, pages_of, retired}
 use Rattle.like_core.specs.WorkerState.{RunsJoined, RunsSplit}
 use Rattle.like_core.specs.declared.worker_state.WorkerState.TheVariants as state
 use Rattle.like_requests.specs.declared.verdict.Verdict.{Verdict}
@@ -8,10 +8,10 @@ use Rattle.like_requests.specs.declared.verdict.Verdict.TheVariants.{Accepted}
 use Rattle.like_requests.specs.Verdict.{verdict_of}
 use Rattle.like_seat.specs.declared.seen.Seen.{Seen}
 use Rattle.like_seat.specs.StationView.{StationView, likes_of, phase_at}
-use Rattle.like_seat.specs.Steps.{ComesBack, CountsLike, Glances, Reads, holding}
-use Rattle.like_tables.specs.Placed.{IsPlaced}
+use Rattle.like_seat.specs.Steps.{ComesBack, CountsLike, Glances, Reads, stashing}
+use Rattle.like_tables.specs.Ranked.{IsRanked}
 use Rattle.like_tables.specs.UserTable.{UserTable, with_last}
-use Rattle.like_tables.specs.declared.placed.Placed.{Placed}
+use Rattle.like_tables.specs.declared.ranked.Ranked.{Ranked}
 use Rattle.like_live.specs.declared.answer.GlanceAnswer.{GlanceAnswer}
 use Rattle.like_live.specs.declared.answer.GlanceAnswer.TheVariants as glance
 use Rattle.like_live.specs.declared.answer.LikeAnswer.{LikeAnswer}
@@ -30,12 +30,12 @@ abbrev pub verdict_at : StationView Asked → ℕ → ℕ → Verdict
 verdict_at s user page =
     verdict_of s.last.share.users s.last.share.submitters s.last.share.worker user (nat_lt page (pages_of s.post))
 
--- a request of the user for the page is accepted at this seat, and this is the user with its place
-pub record IsAccepted (s : StationView Asked) (user page : ℕ) (placed : Placed) : Type 0 where
+-- a request of the user for the page is accepted at this seat, and this is the user with its rank
+pub record IsAccepted (s : StationView Asked) (user page : ℕ) (ranked : Ranked) : Type 0 where
   pub verdict : verdict_at s user page ≡ Accepted
   pub there : page < pages_of s.post
-  pub user_is : placed.user ≡ user
-  pub place_is : IsPlaced s.last.share placed
+  pub user_is : ranked.user ≡ user
+  pub rank_is : IsRanked s.last.share ranked
 
 -- what a like does at a seat that runs a phase
 pub data LikesNow (v : LiveView) (user page : ℕ) (answer : LikeAnswer) (after : LiveView) : Type 0 where
@@ -59,25 +59,25 @@ pub data LikeCase (v : LiveView) (user page : ℕ) (answer : LikeAnswer) (after 
 abbrev pub asked_in : ℕ → ℕ → ℕ → ℕ → Asked
 asked_in phase user page tag = record { tag = tag; user = user; page = page; phase = phase }
 
--- a look is put by: there was room for one more, and it waits behind all others
-pub record PutsBy (v : LiveView) (asked : Asked) (after : LiveView) : Type 0 where
+-- a look is stashed: there was room for one more, and it waits behind all others
+pub record Stashes (v : LiveView) (asked : Asked) (after : LiveView) : Type 0 where
   pub room : length (waiting v) + length v.found < room_of v
-  pub is : after ≡ with_station v (holding v.station asked)
+  pub is : after ≡ with_station v (stashing v.station asked)
 
 -- what a look does at a seat that runs a phase
 pub data LooksNow (v : LiveView) (user page tag : ℕ) (answer : LookAnswer) (after : LiveView) : Type 0 where
   refused : verdict_at v.station user page ≢ Accepted
       → answer ≡ look.Refused (verdict_at v.station user page) → after ≡ v → LooksNow v user page tag answer after
   seen : (shown : Seen) (s : StationView Asked)
-      → verdict_at v.station user page ≡ Accepted → slices v.station.post page ≡ false
+      → verdict_at v.station user page ≡ Accepted → is_split_at v.station.post page ≡ false
       → answer ≡ look.Seen shown → Reads v.station user page shown s → after ≡ with_station v s
       → LooksNow v user page tag answer after
-  no_room : verdict_at v.station user page ≡ Accepted → slices v.station.post page ≡ true
+  no_room : verdict_at v.station user page ≡ Accepted → is_split_at v.station.post page ≡ true
       → length (waiting v) + length v.found ≡ room_of v
       → answer ≡ look.NoRoom → after ≡ v → LooksNow v user page tag answer after
-  waits : verdict_at v.station user page ≡ Accepted → slices v.station.post page ≡ true
+  waits : verdict_at v.station user page ≡ Accepted → is_split_at v.station.post page ≡ true
       → length (waiting v) + length v.found < room_of v
-      → answer ≡ look.Waits → after ≡ with_station v (holding v.station (asked_in (phase_at v.station) user page tag))
+      → answer ≡ look.Waits → after ≡ with_station v (stashing v.station (asked_in (phase_at v.station) user page tag))
       → LooksNow v user page tag answer after
 
 -- look case: the answer to a look, and the seat after; the phase work comes first
@@ -93,11 +93,11 @@ pub data GlancesNow (v : LiveView) (user page : ℕ) (answer : GlanceAnswer) (af
   refused : verdict_at v.station user page ≢ Accepted
       → answer ≡ glance.Refused (verdict_at v.station user page) → after ≡ v → GlancesNow v user page answer after
   plain : (shown : Seen) (s : StationView Asked)
-      → verdict_at v.station user page ≡ Accepted → slices v.station.post page ≡ false
+      → verdict_at v.station user page ≡ Accepted → is_split_at v.station.post page ≡ false
       → answer ≡ glance.Seen shown → Reads v.station user page shown s → after ≡ with_station v s
       → GlancesNow v user page answer after
   split : (shown : Seen) (s : StationView Asked)
-      → verdict_at v.station user page ≡ Accepted → slices v.station.post page ≡ true
+      → verdict_at v.station user page ≡ Accepted → is_split_at v.station.post page ≡ true
       → answer ≡ glance.Glimpsed shown → Glances v.station user page shown s → after ≡ with_station v s
       → GlancesNow v user page answer after
 
@@ -110,8 +110,8 @@ pub data GlanceCase (v : LiveView) (user page : ℕ) (answer : GlanceAnswer) (af
 
 -- a glance that shows something tells whether its page is split then
 abbrev pub TellsIfSplit : LiveView → ℕ → GlanceAnswer → Type 0
-TellsIfSplit v page (glance.Seen shown) = slices v.station.post page ≡ false
-TellsIfSplit v page (glance.Glimpsed shown) = slices v.station.post page ≡ true
+TellsIfSplit v page (glance.Seen shown) = is_split_at v.station.post page ≡ false
+TellsIfSplit v page (glance.Glimpsed shown) = is_split_at v.station.post page ≡ true
 TellsIfSplit v page answer = Unit {0}
 
 -- the seat after it retired

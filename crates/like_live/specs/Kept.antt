@@ -6,36 +6,36 @@ use Rattle.like_core.specs.Post.{pages_of}
 use Rattle.like_core.specs.WorkerState.{IsRunning}
 use Rattle.like_seat.specs.StationView.{IsStation, StationView, phase_at}
 use Rattle.like_tables.specs.Home.{Home, IsHomeOf}
-use Rattle.like_tables.specs.Waiting.{Waiting}
+use Rattle.like_tables.specs.StashView.{StashView}
 use Rattle.like_live.specs.declared.asked.Asked.{Asked}
 use Rattle.like_live.specs.declared.asked.Found.{Found}
 use Rattle.like_live.specs.LiveView.{HasLastsWithin, IsLive, IsOwn, RanNext, live_of}
 use Rattle.like_live.specs.LookRoom.{RoomView}
 
--- a live seat's parts agree: a worker's seat, a stash of found looks, where its users have their places, the number of
+-- a live seat's parts agree: a worker's station, a stash of found looks, which users have which rank, the number of
 -- pages, how many more looks may wait, and half of the room
-pub record AreLiveSeatParts (s : StationView Asked) (found : Waiting Found) (home : Home) (pages : ℕ) (room : RoomView)
+pub record AreLiveSeatParts (s : StationView Asked) (found : StashView Found) (home : Home) (pages : ℕ) (room : RoomView)
     (half : ℕ) : Type 0 where
   pub live : IsLive (live_of s found)
-  pub capacity : found.capacity ≡ s.held.capacity
+  pub capacity : found.capacity ≡ s.stash.capacity
   pub home_is : IsHomeOf home s.last.share
   pub pages_are : pages ≡ pages_of s.post
-  pub room_is : room.left + length s.held.held + length found.held ≡ s.held.capacity
+  pub room_is : room.left + length s.stash.looks + length found.looks ≡ s.stash.capacity
   -- if looks are free to wait, they and those that wait are fewer than the room less its half
-  pub early : 0 < room.free → room.free + length s.held.held + half < s.held.capacity
-  pub half_is : half ≡ s.held.capacity / 2
+  pub early : 0 < room.free → room.free + length s.stash.looks + half < s.stash.capacity
+  pub half_is : half ≡ s.stash.capacity / 2
 
 -- a live seat's parts after a look at the phase word that showed a phase that it runs: what waits was asked in that
 -- phase if it is split, and otherwise in the one before
-pub record HasLooked (s : StationView Asked) (found : Waiting Found) : Type 0 where
+pub record HasLooked (s : StationView Asked) (found : StashView Found) : Type 0 where
   pub station : IsStation s
   pub runs : IsRunning s.post.state
   pub limits : s.post.opening.limits ≡ service_limits
   pub home : s.last.share.submitters ≡ s.last.share.workers
   pub lasts : HasLastsWithin (pages_of s.post) s.last
-  pub own : All (IsOwn s) s.held.held
-  pub asked : IsSplit (phase_at s) → All (λ a. a.phase ≡ phase_at s) s.held.held
-  pub before : IsJoined (phase_at s) → All (λ a. phase_at s ≡ a.phase + 1) s.held.held
-  pub next : All RanNext found.held
-  pub capacity : found.capacity ≡ s.held.capacity
-  pub room : length s.held.held + length found.held ≤ s.held.capacity
+  pub own : All (IsOwn s) s.stash.looks
+  pub asked : IsSplit (phase_at s) → All (λ a. a.phase ≡ phase_at s) s.stash.looks
+  pub before : IsJoined (phase_at s) → All (λ a. phase_at s ≡ a.phase + 1) s.stash.looks
+  pub next : All RanNext found.looks
+  pub capacity : found.capacity ≡ s.stash.capacity
+  pub room : length s.stash.looks + length found.looks ≤ s.stash.capacity

@@ -21,11 +21,11 @@ TellsLast v user answer =
 abbrev pub users_of : LiveView → ℕ
 users_of v = v.station.last.room
 
--- the user at a place of a seat: user i * seats + s at place i of seat s
+-- the user with a rank at a seat: user i * seats + s has rank i at seat s
 abbrev pub user_at : LiveView → ℕ → ℕ
-user_at v place = place * v.station.last.share.workers + v.station.last.share.worker
+user_at v rank = rank * v.station.last.share.workers + v.station.last.share.worker
 
--- a row has the last likes of a seat's users, from a place on: of each the page, or `no_page`
+-- a row has the last likes of a seat's users, from a rank on: of each the page, or `no_page`
 pub record AreLastsAt (v : LiveView) (from : ℕ) (row : List ℕ) : Type 0 where
   pub users : (i : ℕ) → i < length row → owns v.station.last.share (user_at v (from + i)) ≡ true
   pub lasts : (i : ℕ) → i < length row

@@ -7,30 +7,30 @@ use Rattle.like_core.specs.declared.view.WorkerSeatView.{WorkerSeatView}
 use Rattle.like_seat.specs.StationView.{IsStation, StationView, phase_at, tally_of}
 use Rattle.like_tables.specs.Share.{owns}
 use Rattle.like_tables.specs.UserTable.{UserTable, last_of}
-use Rattle.like_tables.specs.Waiting.{Waiting}
+use Rattle.like_tables.specs.StashView.{StashView}
 use Rattle.like_live.specs.declared.asked.Asked.{Asked}
 use Rattle.like_live.specs.declared.asked.Found.{Found}
 
--- a worker's seat, which holds the looks that wait; and the looks that were found and not taken yet
+-- a worker's station, with the looks that wait in its stash; and the looks that were found and not taken yet
 pub record LiveView : Type 0 where
   pub station : StationView Asked
   pub found : List Found
 
--- the live seat of a worker's seat and a stash of found looks
-abbrev pub live_of : StationView Asked → Waiting Found → LiveView
-live_of s found = record { station = s; found = found.held }
+-- the live seat of a worker's station and a stash of found looks
+abbrev pub live_of : StationView Asked → StashView Found → LiveView
+live_of s found = record { station = s; found = found.looks }
 
--- with this worker's seat
+-- with this station
 abbrev pub with_station : LiveView → StationView Asked → LiveView
 with_station v s = record v { station = s }
 
 -- the looks that wait, in the order of asking
 abbrev pub waiting : LiveView → List Asked
-waiting v = v.station.held.held
+waiting v = v.station.stash.looks
 
 -- how many looks may wait, found ones included
 abbrev pub room_of : LiveView → ℕ
-room_of v = v.station.held.capacity
+room_of v = v.station.stash.capacity
 
 -- a page's tally: how many likes of it the seat has added to its count, and how many are in its slice
 abbrev pub tally : LiveView → ℕ → ℕ
@@ -79,7 +79,7 @@ pub record IsLive (v : LiveView) : Type 0 where
 pub record IsNewLive (board : List ℕ) (post : WorkerSeatView) (room : ℕ) (users : UserTable) (v : LiveView) : Type 0 where
   pub at_board : v.station.board ≡ board
   pub at_post : v.station.post ≡ post
-  pub held : v.station.held ≡ record { held = []; capacity = room }
+  pub stash : v.station.stash ≡ record { looks = []; capacity = room }
   pub slice : v.station.slice ≡ replicate (pages_of post) 0
   pub sliced : v.station.sliced ≡ []
   pub last : v.station.last ≡ users

@@ -7,7 +7,7 @@ use Rattle.like_core.specs.declared.opening.Opening.{Opening}
 use Rattle.like_core.specs.declared.view.View.TheVariants.{Coord}
 use Rattle.like_core.specs.core.Numbers.{AllGone}
 use Rattle.like_core.specs.core.State.{numbers}
-use Rattle.like_core.specs.Post.{slices}
+use Rattle.like_core.specs.Post.{is_split_at}
 use Rattle.like_core.specs.WorkerState.{RunsJoined, RunsSplit}
 use Rattle.like_core.specs.views.Places.{count_after}
 use Rattle.like_core.specs.views.Posts.{posts_of}
@@ -44,13 +44,14 @@ LastCountsAreTallies =
     → AllGone (numbers z m.shown.state)
     → (page : ℕ) → count_after z.counts m.views page ≡ slice_index z.counts page + sum_by (λ s. tally s page) seats
 
--- slices are those of slots: at any moment, a seat that runs a split phase slices exactly the pages in its driver's slots
-abbrev pub SlicesAreSlots : Type 0
-SlicesAreSlots =
+-- split pages are those of slots: at any moment, split at a seat that runs a split phase are just the pages in its
+-- driver's slots
+abbrev pub SplitPagesAreSlots : Type 0
+SplitPagesAreSlots =
     (z : Opening) (m : Moment z) (v : DriverView) (s : LiveView)
     → get_elem? m.views 0 ≡ some (Coord v.lead.seat) → IsService v → IsSeatAt z m s → IsStation s.station
     → RunsSplit s.station.post.state → (page : ℕ) → page < length z.counts
-    → (slices s.station.post page ≡ true) ↔ IsSlotted v.splits.slots page
+    → (is_split_at s.station.post page ≡ true) ↔ IsSlotted v.splits.slots page
 
 -- marked pages keep slots: whatever calls a driver was asked, each marked page is in a slot in use
 abbrev pub MarkedKeepSlots : Type 0

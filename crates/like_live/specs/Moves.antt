@@ -46,7 +46,7 @@ with_found v found logged = record {
       did = then_steps v.station.post.did (map (step_for v.station.post.worker) found);
       logged = logged;
     };
-    held = record v.station.held { held = [] };
+    stash = record v.station.stash { looks = [] };
   };
   found = v.found ++ found;
 }

@@ -52,8 +52,8 @@ pub enum LookAnswer {
 pub enum GlanceAnswer {
     /// The user's last like, and the page's count, as a look shows them: the page isn't split.
     Seen(Seen),
-    /// The same, but the page is split in this phase: the count has the seat's own likes, and may lack those that other
-    /// seats have counted in this phase.
+    /// The user's last like, and the page's count. The page is split in this phase: the count has the seat's own likes,
+    /// and may lack those that other seats have counted in this phase.
     Glimpsed(Seen),
     /// The seat is between two phases: call again.
     Between,

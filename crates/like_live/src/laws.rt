@@ -8,7 +8,7 @@ ghost use Rattle.like_live.specs.Driver.{LastCountsStay};
 ghost use Rattle.like_live.specs.History.{HistoriesAreCounted, NoneWaitsOnceGone};
 ghost use Rattle.like_live.specs.LikeRow.{RowsAreLikes};
 ghost use Rattle.like_live.specs.StrictService.{DeedsFitEarlier, MomentsAreStrict, MomentsFitEarlier, SeatsRise, ServicesAreStrict};
-ghost use Rattle.like_live.specs.Moments.{LastCountsAreTallies, MarkedKeepSlots, SeatsAreExclusive, SlicesAreSlots};
+ghost use Rattle.like_live.specs.Moments.{LastCountsAreTallies, MarkedKeepSlots, SeatsAreExclusive, SplitPagesAreSlots};
 
 /// Whatever calls a fresh seat is asked, it has counted what they were told (`HistoryIsCounted`): likes, last likes,
 /// and looks that wait.
@@ -36,8 +36,8 @@ pub fn seats_are_exclusive()
 
 /// At each moment, a seat that runs a split phase slices exactly the pages in its driver's slots, with which the phase
 /// was released.
-pub fn slices_are_slots()
-    ensures { SlicesAreSlots }
+pub fn split_pages_are_slots()
+    ensures { SplitPagesAreSlots }
 {}
 
 /// Whatever calls a driver was asked, each marked page is in a slot in use.

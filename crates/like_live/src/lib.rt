@@ -33,7 +33,7 @@ pub use laws::{
     deeds_have_entries, deeds_show_lasts, found_are_taken, histories_are_counted,
     last_counts_are_tallies, last_counts_stay, marked_keep_slots, moments_are_strict,
     moments_fit_earlier, none_waits_once_gone, rows_are_likes, seats_are_exclusive, seats_rise,
-    services_are_strict, slices_are_slots,
+    services_are_strict, split_pages_are_slots,
 };
 pub use like_pair::{LikePair, RowAnswer};
 pub use like_tables::NO_PAGE;

@@ -27,7 +27,7 @@ use moves::work_or_retire;
 use std::alloc::{AllocError, Global};
 use std::marker::Model;
 
-/// A seat of a live service: a worker's seat, and the looks that were found and not taken yet.
+/// A seat of a live service: a worker's station, and the looks that were found and not taken yet.
 ///
 /// One thread at a time calls it, whichever that is.
 #[derive(Drop)]
@@ -35,7 +35,7 @@ pub struct LiveSeat<P: Post> {
     /// What waits is in its stash.
     station: ServiceStation<P, Asked>,
     found: Stash<Found>,
-    /// Where its users have their places.
+    /// Which users have which rank.
     home: Home,
     /// How many pages there are.
     pages: u32,

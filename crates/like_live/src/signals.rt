@@ -4,7 +4,7 @@ use crate::hint::Hint;
 use like_choice::{Kind, Sampler};
 
 /// The most likes that a seat may count.
-pub const MAX_LIKES: u64 = 1 << 56;
+pub const MAX_LIKES: u64 = like_seat::MAX_LIKES;
 
 /// What a seat tells its driver beside the board: that looks wait, and which pages its requests are for. No proof rests on
 /// that.

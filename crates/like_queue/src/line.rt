@@ -20,8 +20,8 @@ const CAPACITY: usize = 64;
 /// How many items one end hands over before it wakes the other, if that waits: as many as a line holds.
 pub const BATCH: usize = CAPACITY;
 
-// How many microseconds the sending thread waits at most.
-const PATIENCE: u64 = 1000;
+/// How many microseconds a thread waits at most until it looks again.
+pub(crate) const PATIENCE: u64 = 1000;
 
 /// A bounded queue between the thread of a submitter and its worker's, with the submitter's plan. Through it go the
 /// requests of the plan, numbered from 1, and then the end mark.

@@ -9,7 +9,7 @@ use crate::request::{PageRef, Request};
 use thiserror::Error;
 
 /// The most workers of a run.
-pub const MAX_WORKERS: u32 = 16;
+pub const MAX_WORKERS: u32 = like_limits::MAX_WORKERS;
 
 /// The most submitters of a run.
 pub const MAX_SUBMITTERS: usize = 64;

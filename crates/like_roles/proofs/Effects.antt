@@ -11,7 +11,7 @@ pub record HasRunOne (v : WorkerView) (h : Held) (stashed : Bool) (after : Worke
   pub reply : Reply
   pub ran : after.ran ≡ v.ran ++ ran_now v h stashed reply ∷ []
   pub state : after.post.state ≡ v.post.state
-  pub held : after.held ≡ v.held
+  pub stash : after.stash ≡ v.stash
   pub taken : after.taken ≡ v.taken
   pub pending : after.pending ≡ v.pending
 
@@ -23,9 +23,9 @@ Runs-effects v h stashed after run = record {
   ran = ap (λ x. x.ran) run.noted;
   state = ap (λ x. x.post.state) run.noted
       ∙ GivesReply-state v h.submitter h.ask.request run.reply run.served run.serves;
-  held = ap (λ x. x.held) run.noted
-      ∙ GivesReply-keeps (λ x. x.held) v h.submitter h.ask.request run.reply run.served
-      (λ user page old number. counted_by (λ x. x.held ≡ v.held) v page old number refl refl)
+  stash = ap (λ x. x.stash) run.noted
+      ∙ GivesReply-keeps (λ x. x.stash) v h.submitter h.ask.request run.reply run.served
+      (λ user page old number. counted_by (λ x. x.stash ≡ v.stash) v page old number refl refl)
       (λ page count number. refl) run.serves;
   taken = ap (λ x. x.taken) run.noted
       ∙ GivesReply-keeps (λ x. x.taken) v h.submitter h.ask.request run.reply run.served

@@ -24,15 +24,15 @@ use Rattle.like_core.specs.declared.limits.Limits.{Limits}
 use Rattle.like_limits.specs.Limits.{hot_pages}
 use Rattle.like_core.specs.Phase.{IsJoined, IsSplit, is_hot_by, is_marked, split_by}
 use Rattle.like_core.specs.WorkerState.{IsRunning, RunsJoined, RunsSplit, RunsSome, phase_of, seen}
-use Rattle.like_core.specs.Post.{additions_in, answered, looked_at, number_of, pages_of, slices}
+use Rattle.like_core.specs.Post.{additions_in, answered, is_split_at, looked_at, number_of, pages_of}
 use Rattle.like_tables.specs.declared.held.Held.{Held}
 use Rattle.like_promises.proofs.Asked.{asking}
 use Rattle.like_promises.specs.declared.log.Ran.{Ran}
 use Rattle.like_promises.specs.declared.log.Took.{Took}
 use Rattle.like_roles.specs.declared.turn.Turn.{Turn}
-use Rattle.like_roles.specs.worker.Follows.{FitsStash, Follows, IsAsked, IsAskedBy, IsInOrder, IsNoted, IsServed, IsSized, IsTallied, IsUnmerged, HasNothingLater, Stands, entry_held, next_joined}
+use Rattle.like_roles.specs.worker.Follows.{FitsStash, Follows, IsAsked, IsAskedBy, IsInOrder, IsNoted, IsServed, IsSized, IsTallied, IsUnmerged, HasNothingLater, Stands, entry_stashed, next_joined}
 use Rattle.like_promises.specs.Order.{block, entry_of, must_wait, order, waited}
-use Rattle.like_roles.specs.worker.WorkerView.{WorkerView, asked_in, has_to_wait, phase_at, seat_of, submitter_at}
+use Rattle.like_roles.specs.worker.WorkerView.{WorkerView, asked_in, has_to_wait, phase_at, station_of, submitter_at}
 use Rattle.like_promises.specs.Store.{look}
 use Rattle.like_roles.specs.worker.Serve.{Runs, ran_now}
 use Rattle.like_promises.specs.Workload.{Workload, is_split_in, request_at, submitters}
@@ -63,13 +63,13 @@ follows-running : (workload : Workload) (v : WorkerView)
     → IsTallied workload v
     → (v.notes ≡ true → IsNoted workload v.post.did v.adds v.ran)
     → (v.notes ≡ true → IsUnmerged workload v.adds v.post.state)
-    → All (IsAsked workload) v.held.held
+    → All (IsAsked workload) v.stash.looks
     → FitsStash workload v.taken
     → IsInOrder workload v
     → HasNothingLater v.taken v.ran (phase_at v)
-    → ((place : ℕ) → v.pending ≡ Some place → RunsJoined v.post.state → v.held.held ≡ [])
+    → ((rank : ℕ) → v.pending ≡ Some rank → RunsJoined v.post.state → v.stash.looks ≡ [])
     → Follows workload v
-follows-running workload v run served sized t noted unmerged held fits in_order within trying = record {
+follows-running workload v run served sized t noted unmerged stashed fits in_order within trying = record {
   served = served;
   sized = sized;
   tallied = t;
@@ -77,19 +77,19 @@ follows-running workload v run served sized t noted unmerged held fits in_order 
   unmerged = unmerged;
   in_order = in_order;
   fits = fits;
-  held = held;
+  stashed = stashed;
   stands = running-of_within v (λ _. Unit {0}) v.post.state run within;
-  trying = λ place e. (run, trying place e);
+  trying = λ rank e. (run, trying rank e);
 }
 
 -- which pages are split is the same by the workload and by the worker, which has read its split phase's mask
-slices-alike : (workload : Workload) (v : WorkerView)
+split-alike : (workload : Workload) (v : WorkerView)
     → IsServed workload v
     → IsRunning v.post.state
     → HasPhaseMask v.post
     → (page : ℕ)
-    → is_split_in workload (phase_at v) page ≡ slices v.post page
-slices-alike workload v s run has page =
+    → is_split_in workload (phase_at v) page ≡ is_split_at v.post page
+split-alike workload v s run has page =
     ap (λ xs. split_by hot_pages (λ p. get_or xs p false) workload.hot (phase_at v) page) s.marks_alike
     ∙ ap (λ (l : Limits). split_by l.hot (λ p. get_or v.post.opening.marks p false) workload.hot (phase_at v) page) (sym s.run)
     ∙ split-known v.post.opening.limits.hot (λ p. get_or v.post.opening.marks p false) workload.hot v.post.masks (phase_at v) page s.hot_alike
@@ -108,16 +108,16 @@ follows-run : (workload : Workload) (v after : WorkerView) (h : Held) (stashed :
     → HasPhaseMask v.post
     → IsAsked workload h
     → IsSliceInSplit v.post v.slice
-    → ((user page : ℕ) → asked_in v.last.share h.submitter h.ask.request ≡ look user page → slices v.post page ≡ false)
-    → All (IsAsked workload) v.held.held
+    → ((user page : ℕ) → asked_in v.last.share h.submitter h.ask.request ≡ look user page → is_split_at v.post page ≡ false)
+    → All (IsAsked workload) v.stash.looks
     → FitsStash workload v.taken
     → HasNothingLater v.taken v.ran (phase_at v)
     → ((e : HasRunOne v h stashed after) → IsInOrder workload (record v { ran = after.ran }))
     → Follows workload after
-follows-run workload v after h stashed run here none served sized t was un has asked kept plain held fits within
+follows-run workload v after h stashed run here none served sized t was un has asked kept plain waiting fits within
     ordered =
     let e = Runs-effects v h stashed after run in
-    let alike = slices-alike workload v served here has in
+    let alike = split-alike workload v served here has in
     let done = GivesReply-tallied workload v h stashed run.reply run.served served sized t asked kept alike plain
     run.serves in
     let stays = (runs-keeps v h stashed after run).notes in
@@ -140,8 +140,8 @@ follows-run workload v after h stashed run here none served sized t was un has a
     let runs : IsRunning after.post.state = subst (λ s. RunsSome (λ _. Unit {0}) s) (sym e.state) here in
     let phase : phase_at v ≡ phase_at after = ap phase_of (sym e.state) in
     let in_order : IsInOrder workload after =
-    ap (λ k. map entry_of after.ran ++ map (entry_held (k + k % 2)) after.held.held) (sym phase)
-    ∙ ap (λ w. map entry_of after.ran ++ map (entry_held (next_joined v)) w.held) e.held
+    ap (λ k. map entry_of after.ran ++ map (entry_stashed (k + k % 2)) after.stash.looks) (sym phase)
+    ∙ ap (λ w. map entry_of after.ran ++ map (entry_stashed (next_joined v)) w.looks) e.stash
     ∙ ordered e ∙ ap (order workload) (sym e.taken) in
     let now_within : HasNothingLater after.taken after.ran (phase_at v) = (
       subst (λ xs. All (λ t. t.phase ≤ phase_at v) xs) (sym e.taken) within.0,
@@ -151,8 +151,8 @@ follows-run workload v after h stashed run here none served sized t was un has a
     follows-running workload after runs all.0 all.1 all.2 (λ notes. (all.3 (sym stays ∙ notes)).0)
     (λ notes. running-unmerged workload after.adds (λ _. Unit {0}) after.post.state runs
     (subst (λ (k : ℕ). IsUnmerged workload after.adds (state.Runs k)) phase (all.3 (sym stays ∙ notes)).1))
-    (subst (λ w. All (IsAsked workload) w.held) (sym e.held) held) (subst (FitsStash workload) (sym e.taken) fits)
-    in_order (subst (HasNothingLater after.taken after.ran) phase now_within) (λ place p. absurd (cc (e.pending, none, p)))
+    (subst (λ w. All (IsAsked workload) w.looks) (sym e.stash) waiting) (subst (FitsStash workload) (sym e.taken) fits)
+    in_order (subst (HasNothingLater after.taken after.ran) phase now_within) (λ rank p. absurd (cc (e.pending, none, p)))
 
 -- the worker after a look with this number, where its post has then read these masks
 abbrev looking : WorkerView → Sight → List PhaseMask → ℕ → WorkerView
@@ -172,24 +172,24 @@ saw-stands v sight masks number state.Gone b n = absurd (n refl)
 
 -- and of the joined phase in which what it holds runs
 saw-next : (v : WorkerView) (sight : Sight) (s : WorkerState) → Stands v s → s ≢ state.Gone
-    → map (entry_held (phase_of (seen s sight) + phase_of (seen s sight) % 2)) v.held.held
-    ≡ map (entry_held (phase_of s + phase_of s % 2)) v.held.held
+    → map (entry_stashed (phase_of (seen s sight) + phase_of (seen s sight) % 2)) v.stash.looks
+    ≡ map (entry_stashed (phase_of s + phase_of s % 2)) v.stash.looks
 saw-next v sight (state.Runs k) b n = refl
 saw-next v sight (state.Answered k) b n = by_test sight.waits where
-  next : map (entry_held ((k + 1) + (k + 1) % 2)) v.held.held ≡ map (entry_held (k + k % 2)) v.held.held
+  next : map (entry_stashed ((k + 1) + (k + 1) % 2)) v.stash.looks ≡ map (entry_stashed (k + k % 2)) v.stash.looks
   next = elim (parity k) [
-    | inl even ↦ ap (map (entry_held ((k + 1) + (k + 1) % 2))) (b.1 even)
-        ∙ ap (map (entry_held (k + k % 2))) (sym (b.1 even))
+    | inl even ↦ ap (map (entry_stashed ((k + 1) + (k + 1) % 2))) (b.1 even)
+        ∙ ap (map (entry_stashed (k + k % 2))) (sym (b.1 even))
     | inr odd ↦
         let same : (k + 1) + (k + 1) % 2 ≡ k + k % 2 = omega arith in
-        ap (λ j. map (entry_held j) v.held.held) same
+        ap (λ j. map (entry_stashed j) v.stash.looks) same
   ]
 
   by_test : (w : Bool)
-      → map (entry_held
+      → map (entry_stashed
       (phase_of (cond w (state.Answered k) (state.Runs (k + 1)))
-      + phase_of (cond w (state.Answered k) (state.Runs (k + 1))) % 2)) v.held.held
-      ≡ map (entry_held (k + k % 2)) v.held.held
+      + phase_of (cond w (state.Answered k) (state.Runs (k + 1))) % 2)) v.stash.looks
+      ≡ map (entry_stashed (k + k % 2)) v.stash.looks
   by_test true = refl
   by_test false = next
 saw-next v sight state.Gone b n = absurd (n refl)
@@ -262,28 +262,28 @@ follows-saw workload v sight masks number right f kept here none = record {
   unmerged = λ notes. unmerged-seen workload v.adds sight v.post.state (f.unmerged notes);
   in_order = ap (λ zs. map entry_of v.ran ++ zs) (saw-next v sight v.post.state f.stands here) ∙ f.in_order;
   fits = f.fits;
-  held = f.held;
+  stashed = f.stashed;
   stands = saw-stands v sight masks number v.post.state f.stands here;
-  trying = λ place e. absurd (cc (none, e));
+  trying = λ rank e. absurd (cc (none, e));
 }
 
--- no page is sliced in a joined phase
-unsliced-joined : (v : WorkerView) (page : ℕ) → IsJoined (phase_at v) → slices v.post page ≡ false
-unsliced-joined v page even =
+-- no page is split in a joined phase
+unsplit-joined : (v : WorkerView) (page : ℕ) → IsJoined (phase_at v) → is_split_at v.post page ≡ false
+unsplit-joined v page even =
     ap (λ (n : ℕ). (n == 1)
     && (is_marked v.post.opening.marks page || is_hot_by v.post.opening.limits.hot (mask_of v.post.masks (phase_at v)) page)) even
 
--- the first of what is held runs in a joined phase
-follows-held : (workload : Workload) (v : WorkerView) (first : Held) (rest : List Held) (after : WorkerView)
+-- the first of what is stashed runs in a joined phase
+follows-stashed : (workload : Workload) (v : WorkerView) (first : Held) (rest : List Held) (after : WorkerView)
     → v.pending ≡ None
     → Follows workload v
     → IsSliceInSplit v.post v.slice
     → RunsJoined v.post.state
-    → v.held.held ≡ first ∷ rest
+    → v.stash.looks ≡ first ∷ rest
     → Runs (without_first v rest) first true after → Follows workload after
-follows-held workload v first rest after none f kept j e run =
+follows-stashed workload v first rest after none f kept j e run =
     let even = runs-phase IsJoined v.post.state j in
-    let all : All (IsAsked workload) (first ∷ rest) = subst (All (IsAsked workload)) e f.held in
+    let all : All (IsAsked workload) (first ∷ rest) = subst (All (IsAsked workload)) e f.stashed in
     let k = phase_at v in
     let same : next_joined v ≡ k = omega arith in
     follows-run workload (without_first v rest) after first true run
@@ -294,29 +294,29 @@ follows-held workload v first rest after none f kept j e run =
     f.noted f.unmerged (λ odd. absurd (not-split v.post.state j odd))
     (All-head (IsAsked workload) first rest all)
     kept
-    (λ user page _. unsliced-joined v page even)
+    (λ user page _. unsplit-joined v page even)
     (All-tail (IsAsked workload) first rest all) f.fits
     (within-of_running v IsJoined v.post.state j f.stands)
-    (λ r. ap (λ n. map entry_of after.ran ++ map (entry_held n) rest) same
-    ∙ ap (λ zs. zs ++ map (entry_held k) rest)
+    (λ r. ap (λ n. map entry_of after.ran ++ map (entry_stashed n) rest) same
+    ∙ ap (λ zs. zs ++ map (entry_stashed k) rest)
     (ap (map entry_of) r.ran ∙ map-append entry_of v.ran (ran_now (without_first v rest) first true r.reply ∷ []))
-    ∙ append_assoc (map entry_of v.ran) (entry_held k first ∷ []) (map (entry_held k) rest)
-    ∙ ap (λ hs. map entry_of v.ran ++ map (entry_held k) hs) (sym e)
-    ∙ ap (λ n. map entry_of v.ran ++ map (entry_held n) v.held.held) (sym same)
+    ∙ append_assoc (map entry_of v.ran) (entry_stashed k first ∷ []) (map (entry_stashed k) rest)
+    ∙ ap (λ hs. map entry_of v.ran ++ map (entry_stashed k) hs) (sym e)
+    ∙ ap (λ n. map entry_of v.ran ++ map (entry_stashed n) v.stash.looks) (sym same)
     ∙ f.in_order)
 
 -- a submitter is tried
-follows-trying : (workload : Workload) (v : WorkerView) (place : ℕ)
+follows-trying : (workload : Workload) (v : WorkerView) (rank : ℕ)
     → Follows workload v
     → IsRunning v.post.state
-    → (RunsJoined v.post.state → v.held.held ≡ [])
-    → Follows workload (trying v place)
-follows-trying workload v place f run empty =
-    follows-running workload (trying v place) run
+    → (RunsJoined v.post.state → v.stash.looks ≡ [])
+    → Follows workload (trying v rank)
+follows-trying workload v rank f run empty =
+    follows-running workload (trying v rank) run
     (f.served)
     (f.sized)
     (f.tallied)
-    f.noted f.unmerged f.held f.fits f.in_order (within-of_running v (λ _. Unit {0}) v.post.state run f.stands)
+    f.noted f.unmerged f.stashed f.fits f.in_order (within-of_running v (λ _. Unit {0}) v.post.state run f.stands)
     (λ _ _. empty)
 
 -- the worker answers its phase; in a joined one it holds nothing
@@ -324,7 +324,7 @@ follows-answered : (workload : Workload) (v : WorkerView) (P : ℕ → Type 0)
     → Follows workload v
     → RunsSome P v.post.state
     → v.pending ≡ None
-    → (IsJoined (phase_at v) → v.held.held ≡ [])
+    → (IsJoined (phase_at v) → v.stash.looks ≡ [])
     → Follows workload (record v { post = answered v.post })
 follows-answered workload v P f run none empty =
     record {
@@ -335,9 +335,9 @@ follows-answered workload v P f run none empty =
       unmerged = λ notes. (unmerged-running workload v.adds P v.post.state run (f.unmerged notes)).0;
       in_order = f.in_order;
       fits = f.fits;
-      held = f.held;
+      stashed = f.stashed;
       stands = (within-of_running v P v.post.state run f.stands, empty);
-      trying = λ place e. absurd (cc (none, e));
+      trying = λ rank e. absurd (cc (none, e));
     }
 
 -- it merges its slice, and answers its phase
@@ -352,7 +352,7 @@ follows-reported : (workload : Workload) (v : WorkerView) (adds : List Addition)
 follows-reported workload v adds logged merges f run none kept has =
     let odd = runs-phase IsSplit v.post.state run in
     let here = runs-weaker IsSplit (λ _. Unit {0}) v.post.state (λ _ _. tt) run in
-    let alike = slices-alike workload v f.served here has in
+    let alike = split-alike workload v f.served here has in
     let noted = λ (notes : v.notes ≡ true).
     merge-noted workload v adds merges f.tallied notes (f.noted notes)
     (unmerged-running workload v.adds IsSplit v.post.state run (f.unmerged notes))
@@ -362,9 +362,9 @@ follows-reported workload v adds logged merges f run none kept has =
       served = f.served;
       sized = record { slice = length-replicate (pages_of v.post) 0; users = f.sized.users };
       tallied = record {
-        likes = λ page. f.tallied.likes page ∙ sym (merge.merged-tally (seat_of v) adds logged merges f.sized.slice page);
+        likes = λ page. f.tallied.likes page ∙ sym (merge.merged-tally (station_of v) adds logged merges f.sized.slice page);
         by_phase = λ phase page. f.tallied.by_phase phase page
-            ∙ sym (merge.merged-in (seat_of v) adds logged merges f.sized.slice phase page);
+            ∙ sym (merge.merged-in (station_of v) adds logged merges f.sized.slice phase page);
         steps = ap (plain_told workload) (then-earliest v.post.did (map (step_adding v.post.worker) adds))
             ∙ plain_told-split workload (earliest_first v.post.did) (map (step_adding v.post.worker) adds)
             (All-map (λ s. is_split_in workload s.phase s.page ≡ true) (step_adding v.post.worker) adds
@@ -380,9 +380,9 @@ follows-reported workload v adds logged merges f run none kept has =
       unmerged = λ notes. (noted notes).1;
       in_order = f.in_order;
       fits = f.fits;
-      held = f.held;
+      stashed = f.stashed;
       stands = (within-of_running v IsSplit v.post.state run f.stands, λ even. absurd (omega arith));
-      trying = λ place e. absurd (cc (none, e));
+      trying = λ rank e. absurd (cc (none, e));
     }
 
 -- a worker that runs a phase
@@ -393,8 +393,8 @@ follows-works : (workload : Workload) (v : WorkerView) (ending : Bool) (answer :
     → HasPhaseMask v.post
     → Works v ending answer after
     → Follows workload after
-follows-works workload v ending answer after none f kept has (turns.runs_held first rest j e a run) =
-    follows-held workload v first rest after none f kept j e run
+follows-works workload v ending answer after none f kept has (turns.runs_stashed first rest j e a run) =
+    follows-stashed workload v first rest after none f kept j e run
 follows-works workload v ending answer after none f kept has (turns.retires j e ended a x) =
     let none_kept = empty-unsplit v.post.state v.slice (λ p some. (kept p some).0) (not-split v.post.state j) in
     let zero_at : (b : Bool) (page : ℕ) → cond b (get_or v.slice page 0) 0 ≡ 0 =
@@ -419,18 +419,18 @@ follows-works workload v ending answer after none f kept has (turns.retires j e 
       };
       noted = f.noted;
       unmerged = λ notes. tt;
-      in_order = ap (λ hs. map entry_of v.ran ++ map (entry_held 0) hs) e
-          ∙ ap (λ hs. map entry_of v.ran ++ map (entry_held (next_joined v)) hs) (sym e) ∙ f.in_order;
+      in_order = ap (λ hs. map entry_of v.ran ++ map (entry_stashed 0) hs) e
+          ∙ ap (λ hs. map entry_of v.ran ++ map (entry_stashed (next_joined v)) hs) (sym e) ∙ f.in_order;
       fits = f.fits;
-      held = f.held;
+      stashed = f.stashed;
       stands = (e, ended);
-      trying = λ place p. absurd (cc (none, p));
+      trying = λ rank p. absurd (cc (none, p));
     })
 follows-works workload v ending answer after none f kept has (turns.acknowledges j e ended seen a x) =
     subst (Follows workload) (sym x) (follows-answered workload v IsJoined f j none (λ _. e))
-follows-works workload v ending answer after none f kept has (turns.tries_joined place j e next seen a x) =
+follows-works workload v ending answer after none f kept has (turns.tries_joined rank j e next seen a x) =
     subst (Follows workload) (sym x)
-    (follows-trying workload v place f (runs-weaker IsJoined (λ _. Unit {0}) v.post.state (λ _ _. tt) j) (λ _. e))
+    (follows-trying workload v rank f (runs-weaker IsJoined (λ _. Unit {0}) v.post.state (λ _ _. tt) j) (λ _. e))
 follows-works workload v ending answer after none f kept has (turns.reports now s seen a m x) =
     let merges = merged v m.0 now.post.logged in
     let is : after ≡ record merges { post = answered merges.post } =
@@ -438,10 +438,10 @@ follows-works workload v ending answer after none f kept has (turns.reports now 
     subst (Follows workload) (sym is) (follows-reported workload v m.0 now.post.logged m.1.0 f s none kept has)
 follows-works workload v ending answer after none f kept has (turns.idles s seen stuck a x) =
     subst (Follows workload) (sym x) f
-follows-works workload v ending answer after none f kept has (turns.tries_split place s seen room next a x) =
+follows-works workload v ending answer after none f kept has (turns.tries_split rank s seen room next a x) =
     let odd = runs-phase IsSplit v.post.state s in
     subst (Follows workload) (sym x)
-    (follows-trying workload v place f (runs-weaker IsSplit (λ _. Unit {0}) v.post.state (λ _ _. tt) s)
+    (follows-trying workload v rank f (runs-weaker IsSplit (λ _. Unit {0}) v.post.state (λ _ _. tt) s)
     (λ j. let even = runs-phase IsJoined v.post.state j in absurd (omega arith)))
 
 -- a turn
@@ -473,9 +473,9 @@ follows-settled workload v f = record {
   unmerged = f.unmerged;
   in_order = f.in_order;
   fits = f.fits;
-  held = f.held;
+  stashed = f.stashed;
   stands = f.stands;
-  trying = λ place e. absurd (cc e);
+  trying = λ rank e. absurd (cc e);
 }
 
 -- whether a request has to wait, of so many users and submitters, where these pages are split
@@ -509,12 +509,12 @@ waits-alike workload v submitter number r asked s run has =
     (λ page. split-known v.post.opening.limits.hot (λ p. get_or v.post.opening.marks p false) workload.hot v.post.masks (phase_at v) page s.hot_alike
     (λ odd _ _. has (runs-split v.post.state run odd)) m) submitter r)
 
--- the page of a look that need not wait is not sliced
+-- the page of a look that need not wait is not split
 plain-prompt : (v : WorkerView) (submitter : ℕ) (r : Request) (user page : ℕ)
     → has_to_wait v submitter r ≡ false
     → asked_in v.last.share submitter r ≡ look user page
-    → slices v.post page ≡ false
-plain-prompt v submitter r user page prompt is = sym (ap (must_wait (slices v.post)) is) ∙ prompt
+    → is_split_at v.post page ≡ false
+plain-prompt v submitter r user page prompt is = sym (ap (must_wait (is_split_at v.post)) is) ∙ prompt
 
 -- no more comes out of the stash in a phase where what is taken runs at once
 fits-prompt : (workload : Workload) (xs : List Took) (t : Took)
@@ -534,22 +534,22 @@ fits-waits workload xs t fits few k = elim (cases_eq (t.phase + 1) k) [
   | inr other ↦ rw (stashed-other workload xs t k other) (fits k)
 ]
 
--- a request that is taken from the submitter at a place
-follows-takes : (workload : Workload) (v : WorkerView) (place : ℕ) (ask : Numbered) (answer : Turn) (after : WorkerView)
+-- a request that is taken from the submitter with a rank
+follows-takes : (workload : Workload) (v : WorkerView) (rank : ℕ) (ask : Numbered) (answer : Turn) (after : WorkerView)
     → v.pending ≡ None
     → Follows workload v
     → IsSliceInSplit v.post v.slice
     → HasPhaseMask v.post
     → IsRunning v.post.state
-    → (RunsJoined v.post.state → v.held.held ≡ [])
-    → request_at workload (submitter_at v place) ask.number ≡ Some ask.request
+    → (RunsJoined v.post.state → v.stash.looks ≡ [])
+    → request_at workload (submitter_at v rank) ask.number ≡ Some ask.request
     → IsThere (length (marks_of workload.pages)) ask.request.page
-    → length after.held.held ≤ after.held.capacity → TakesAsk v place ask answer after → Follows workload after
-follows-takes workload v place ask answer after none f kept has run empty asked there room (turns.stashes w a x) =
-    let t : Took = record { phase = phase_at v; submitter = submitter_at v place; number = ask.number } in
-    let h : Held = held_from v place ask in
+    → length after.stash.looks ≤ after.stash.capacity → TakesAsk v rank ask answer after → Follows workload after
+follows-takes workload v rank ask answer after none f kept has run empty asked there room (turns.stashes w a x) =
+    let t : Took = record { phase = phase_at v; submitter = submitter_at v rank; number = ask.number } in
+    let h : Held = held_from v rank ask in
     let to_wait : waited workload t ≡ true =
-    waits-alike workload v (submitter_at v place) ask.number ask.request asked f.served run has ∙ w in
+    waits-alike workload v (submitter_at v rank) ask.number ask.request asked f.served run has ∙ w in
     let not_even : IsJoined (phase_at v) → ⊥ = λ j. cc (to_wait, waited-joined workload t j) in
     let p = phase_at v in
     let odd : IsSplit p = elim (parity p) [
@@ -561,26 +561,26 @@ follows-takes workload v place ask answer after none f kept has run empty asked 
     let more : All (λ u. u.phase ≤ p) (v.taken ++ t ∷ []) =
     All-push (λ (u : Took). u.phase ≤ p) v.taken t within.0 (omega arith) in
     let both = parts workload v f.in_order within (λ j. absurd (not_even j)) in
-    let held_is : block workload (v.taken ++ t ∷ []) (p + 1) ≡ map (entry_held (next_joined v)) (v.held.held ++ h ∷ []) =
+    let held_is : block workload (v.taken ++ t ∷ []) (p + 1) ≡ map (entry_stashed (next_joined v)) (v.stash.looks ++ h ∷ []) =
     block-next-waits workload v.taken t to_wait (before-next v.taken p within.0)
-    ∙ ap (λ zs. zs ++ entry_held (p + 1) h ∷ []) (sym both.1)
-    ∙ ap (λ n. map (entry_held (next_joined v)) v.held.held ++ entry_held n h ∷ []) (sym same)
-    ∙ sym (map-append (entry_held (next_joined v)) v.held.held (h ∷ [])) in
-    let enough : length (v.held.held ++ h ∷ []) ≤ v.held.capacity =
-    subst (λ (w : WorkerView). length w.held.held ≤ w.held.capacity) x room in
-    subst (Follows workload) (sym x) (follows-running workload (with_stashed (with_taken v place ask) h) run
+    ∙ ap (λ zs. zs ++ entry_stashed (p + 1) h ∷ []) (sym both.1)
+    ∙ ap (λ n. map (entry_stashed (next_joined v)) v.stash.looks ++ entry_stashed n h ∷ []) (sym same)
+    ∙ sym (map-append (entry_stashed (next_joined v)) v.stash.looks (h ∷ [])) in
+    let enough : length (v.stash.looks ++ h ∷ []) ≤ v.stash.capacity =
+    subst (λ (w : WorkerView). length w.stash.looks ≤ w.stash.capacity) x room in
+    subst (Follows workload) (sym x) (follows-running workload (with_stashed (with_taken v rank ask) h) run
     (f.served)
     (f.sized)
     (f.tallied)
     f.noted f.unmerged
-    (All-push (IsAsked workload) v.held.held h f.held (record { asked = asked; there = there }))
+    (All-push (IsAsked workload) v.stash.looks h f.stashed (record { asked = asked; there = there }))
     (fits-waits workload v.taken t f.fits
     (omega (
       arith,
       enough,
       f.served.stash_alike,
       ap length held_is,
-      length-map (v.held.held ++ h ∷ []) (entry_held (next_joined v)),
+      length-map (v.stash.looks ++ h ∷ []) (entry_stashed (next_joined v)),
     )))
     (ap (λ hs. map entry_of v.ran ++ hs) (sym held_is)
     ∙ ap (λ rs. rs ++ block workload (v.taken ++ t ∷ []) (p + 1))
@@ -588,31 +588,31 @@ follows-takes workload v place ask answer after none f kept has run empty asked 
     ∙ sym (order-parts workload (v.taken ++ t ∷ []) p (before-next (v.taken ++ t ∷ []) p more)))
     (more, within.1)
     (λ k e. absurd (cc (none, e))))
-follows-takes workload v place ask answer after none f kept has run empty asked there room (turns.runs w a r) =
-    let t : Took = record { phase = phase_at v; submitter = submitter_at v place; number = ask.number } in
-    let h : Held = held_from v place ask in
+follows-takes workload v rank ask answer after none f kept has run empty asked there room (turns.runs w a r) =
+    let t : Took = record { phase = phase_at v; submitter = submitter_at v rank; number = ask.number } in
+    let h : Held = held_from v rank ask in
     let p = phase_at v in
     let at_once : waited workload t ≡ false =
-    waits-alike workload v (submitter_at v place) ask.number ask.request asked f.served run has ∙ w in
+    waits-alike workload v (submitter_at v rank) ask.number ask.request asked f.served run has ∙ w in
     let within = within-of_running v (λ _. Unit {0}) v.post.state run f.stands in
     let more : All (λ u. u.phase ≤ p) (v.taken ++ t ∷ []) =
     All-push (λ (u : Took). u.phase ≤ p) v.taken t within.0 (omega arith) in
     let both = parts workload v f.in_order within (λ j. empty (runs-joined v.post.state run j)) in
-    let held_next = map (entry_held (next_joined v)) v.held.held in
-    follows-run workload (with_taken v place ask) after h false r run none
+    let held_next = map (entry_stashed (next_joined v)) v.stash.looks in
+    follows-run workload (with_taken v rank ask) after h false r run none
     (f.served)
     (f.sized)
     (f.tallied)
     f.noted f.unmerged has
     (record { asked = asked; there = there })
     kept
-    (λ user page is. plain-prompt v (submitter_at v place) ask.request user page w is) f.held
+    (λ user page is. plain-prompt v (submitter_at v rank) ask.request user page w is) f.stashed
     (fits-prompt workload v.taken t at_once f.fits)
     (more, within.1)
     (λ e.
     ap (λ rs. rs ++ held_next)
-    (ap (map entry_of) e.ran ∙ map-append entry_of v.ran (ran_now (with_taken v place ask) h false e.reply ∷ [])
-    ∙ ap (λ rs. rs ++ entry_of (ran_now (with_taken v place ask) h false e.reply) ∷ []) both.0
+    (ap (map entry_of) e.ran ∙ map-append entry_of v.ran (ran_now (with_taken v rank ask) h false e.reply ∷ [])
+    ∙ ap (λ rs. rs ++ entry_of (ran_now (with_taken v rank ask) h false e.reply) ∷ []) both.0
     ∙ sym (order_below-prompt workload v.taken t at_once))
     ∙ ap (λ hs. order_below workload (v.taken ++ t ∷ []) (p + 1) ++ hs)
     (both.1 ∙ sym (block-next-prompt workload v.taken t at_once))
@@ -624,25 +624,25 @@ pub follows-give : (workload : Workload) (v : WorkerView) (took : Taken) (answer
     → IsAskedBy workload v took
     → IsSliceInSplit v.post v.slice
     → HasPhaseMask v.post
-    → length after.held.held ≤ after.held.capacity
+    → length after.stash.looks ≤ after.stash.capacity
     → Gives v took answer after
     → Follows workload v
     → Follows workload after
 follows-give workload v took answer after can asked kept has room (turns.nothing t a x) f =
     subst (Follows workload) (sym x) (follows-settled workload v f)
-follows-give workload v took answer after can asked kept has room (turns.ends place p t a x) f =
-    let run = (f.trying place p).0 in
-    subst (Follows workload) (sym x) (follows-running workload (record (settled v) { ended = set v.ended place true }) run
+follows-give workload v took answer after can asked kept has room (turns.ends rank p t a x) f =
+    let run = (f.trying rank p).0 in
+    subst (Follows workload) (sym x) (follows-running workload (record (settled v) { ended = set v.ended rank true }) run
     (f.served)
     (f.sized)
     (f.tallied)
-    f.noted f.unmerged f.held f.fits f.in_order (within-of_running v (λ _. Unit {0}) v.post.state run f.stands)
+    f.noted f.unmerged f.stashed f.fits f.in_order (within-of_running v (λ _. Unit {0}) v.post.state run f.stands)
     (λ k e. absurd (cc e)))
-follows-give workload v took answer after can asked kept has room (turns.asks place ask p t x) f =
-    let run = f.trying place p in
-    let by_plan = (subst (λ y. IsAskedBy workload v y) t asked) place p in
-    let next = (subst (λ y. CanGive v y) t can) place p in
+follows-give workload v took answer after can asked kept has room (turns.asks rank ask p t x) f =
+    let run = f.trying rank p in
+    let by_plan = (subst (λ y. IsAskedBy workload v y) t asked) rank p in
+    let next = (subst (λ y. CanGive v y) t can) rank p in
     let P : ℕ → Type 0 = λ n. IsThere n ask.request.page in
     let there = subst P (ap length (sym f.served.marks_alike)) next.there in
-    follows-takes workload (settled v) place ask answer after refl
+    follows-takes workload (settled v) rank ask answer after refl
     (follows-settled workload v f) kept has run.0 run.1 by_plan there room x

@@ -7,7 +7,7 @@ use Rattle.like_core.specs.declared.worker_state.WorkerState.TheVariants as stat
 use Rattle.like_core.specs.Phase.{IsJoined}
 use Rattle.like_core.specs.WorkerState.{RunsSome, phase_of}
 use Rattle.like_promises.specs.declared.log.Took.{Took}
-use Rattle.like_roles.specs.worker.Follows.{IsInOrder, HasNothingLater, Stands, entry_held, next_joined}
+use Rattle.like_roles.specs.worker.Follows.{IsInOrder, HasNothingLater, Stands, entry_stashed, next_joined}
 use Rattle.like_promises.specs.Order.{Entry, block, entry_of}
 use Rattle.like_promises.specs.Workload.{Workload}
 use Rattle.like_roles.specs.worker.WorkerView.{WorkerView, phase_at}
@@ -87,21 +87,21 @@ parts-same k (x ∷ xs) ys (u ∷ us) vs low next low_too next_too same =
 pub parts : (workload : Workload) (v : WorkerView)
     → IsInOrder workload v
     → HasNothingLater v.taken v.ran (phase_at v)
-    → (IsJoined (phase_at v) → v.held.held ≡ [])
+    → (IsJoined (phase_at v) → v.stash.looks ≡ [])
     → (map entry_of v.ran ≡ order_below workload v.taken (phase_at v + 1))
-    × (map (entry_held (next_joined v)) v.held.held ≡ block workload v.taken (phase_at v + 1))
+    × (map (entry_stashed (next_joined v)) v.stash.looks ≡ block workload v.taken (phase_at v + 1))
 parts workload v in_order within empty =
     let k : ℕ = phase_at v in
-    let held : List Entry = map (entry_held (k + 1)) v.held.held in
-    let next : map (entry_held (next_joined v)) v.held.held ≡ held =
+    let stashed : List Entry = map (entry_stashed (k + 1)) v.stash.looks in
+    let next : map (entry_stashed (next_joined v)) v.stash.looks ≡ stashed =
     elim (parity k) [
-      | inl even ↦ ap (map (entry_held (next_joined v))) (empty even) ∙ ap (map (entry_held (k + 1))) (sym (empty even))
-      | inr odd ↦ let same : next_joined v ≡ k + 1 = omega arith in ap (λ n. map (entry_held n) v.held.held) same
+      | inl even ↦ ap (map (entry_stashed (next_joined v))) (empty even) ∙ ap (map (entry_stashed (k + 1))) (sym (empty even))
+      | inr odd ↦ let same : next_joined v ≡ k + 1 = omega arith in ap (λ n. map (entry_stashed n) v.stash.looks) same
     ] in
-    let both = parts-same k (map entry_of v.ran) held
+    let both = parts-same k (map entry_of v.ran) stashed
     (order_below workload v.taken (k + 1)) (block workload v.taken (k + 1))
     (All-map (λ (e : Entry). e.phase ≤ k) entry_of v.ran within.1)
-    (All-map (λ (e : Entry). e.phase ≡ k + 1) (entry_held (k + 1)) v.held.held (λ i d inside. refl))
+    (All-map (λ (e : Entry). e.phase ≡ k + 1) (entry_stashed (k + 1)) v.stash.looks (λ i d inside. refl))
     (λ i d inside. let low = order_below-phases workload v.taken (k + 1) i d inside in omega arith)
     (block-phase workload v.taken (k + 1))
     (ap (λ (xs : List Entry). map entry_of v.ran ++ xs) (sym next) ∙ in_order

@@ -79,18 +79,18 @@ runs-keeps v h stashed after run =
 pub works-keeps : (v : WorkerView) (ending : Bool) (answer : Turn) (after : WorkerView)
     → Works v ending answer after
     → TakesNothing v after
-works-keeps v ending answer after (turns.runs_held first rest j e a run) =
+works-keeps v ending answer after (turns.runs_stashed first rest j e a run) =
     both v (turns.without_first v rest) after (untaken v _ _ refl refl)
     (runs-keeps (turns.without_first v rest) first true after run)
 works-keeps v ending answer after (turns.retires j e ended a x) = untaken v _ after x refl
 works-keeps v ending answer after (turns.acknowledges j e ended seen a x) = untaken v _ after x refl
-works-keeps v ending answer after (turns.tries_joined place j e next seen a x) = untaken v _ after x refl
+works-keeps v ending answer after (turns.tries_joined rank j e next seen a x) = untaken v _ after x refl
 works-keeps v ending answer after (turns.reports now s seen a m x) =
     let merges = merged v m.0 now.post.logged in
     untaken v (record merges { post = answered merges.post }) after
     (x ∙ ap {A = WorkerView} (λ w. record w { post = answered w.post }) m.1.1) refl
 works-keeps v ending answer after (turns.idles s seen stuck a x) = untaken v v after x refl
-works-keeps v ending answer after (turns.tries_split place s seen room next a x) = untaken v _ after x refl
+works-keeps v ending answer after (turns.tries_split rank s seen room next a x) = untaken v _ after x refl
 
 -- a turn takes nothing
 pub turns-keeps : (v : WorkerView) (answer : Turn) (after : WorkerView) → Turns v answer after → TakesNothing v after
@@ -119,12 +119,12 @@ turns-keeps v answer after (turns.works sight mask number here i w x) =
     saw-masks false true = (record { phase = to; mask = mask } ∷ [], refl)
     saw-masks false false = ([], refl)
 
-takes-keeps : (v : WorkerView) (place : ℕ) (ask : Numbered) (answer : Turn) (after : WorkerView)
-    → TakesAsk v place ask answer after
-    → TakesNothing (turns.with_taken v place ask) after
-takes-keeps v place ask answer after (turns.stashes w a x) = untaken (turns.with_taken v place ask) _ after x refl
-takes-keeps v place ask answer after (turns.runs w a run) =
-    runs-keeps (turns.with_taken v place ask) (turns.held_from v place ask) false after run
+takes-keeps : (v : WorkerView) (rank : ℕ) (ask : Numbered) (answer : Turn) (after : WorkerView)
+    → TakesAsk v rank ask answer after
+    → TakesNothing (turns.with_taken v rank ask) after
+takes-keeps v rank ask answer after (turns.stashes w a x) = untaken (turns.with_taken v rank ask) _ after x refl
+takes-keeps v rank ask answer after (turns.runs w a run) =
+    runs-keeps (turns.with_taken v rank ask) (turns.held_from v rank ask) false after run
 
 -- what is given is taken, and nothing else
 pub gives-takes : (v : WorkerView) (took : Taken) (answer : Turn) (after : WorkerView)
@@ -132,15 +132,15 @@ pub gives-takes : (v : WorkerView) (took : Taken) (answer : Turn) (after : Worke
     → HasTaken v took after
 gives-takes v took answer after (turns.nothing t a x) =
     subst (λ y. HasTaken v y after) (sym t) (untaken v _ after x refl)
-gives-takes v took answer after (turns.ends place p t a x) =
+gives-takes v took answer after (turns.ends rank p t a x) =
     subst (λ y. HasTaken v y after) (sym t) (λ other o.
-    let here : place ≡ other = cc (p, o) in
+    let here : rank ≡ other = cc (p, o) in
     subst (λ k. TakesNothing (record v { ended = set v.ended k true }) after) here
-    (untaken (record v { ended = set v.ended place true }) _ after x refl))
-gives-takes v took answer after (turns.asks place ask p t x) =
+    (untaken (record v { ended = set v.ended rank true }) _ after x refl))
+gives-takes v took answer after (turns.asks rank ask p t x) =
     subst (λ y. HasTaken v y after) (sym t) (λ other o.
-    let here : place ≡ other = cc (p, o) in
-    let settled = turns.with_taken (turns.settled v) place ask in
+    let here : rank ≡ other = cc (p, o) in
+    let settled = turns.with_taken (turns.settled v) rank ask in
     subst (λ j. TakesNothing (turns.with_taken v j ask) after) here
-    (both (turns.with_taken v place ask) settled after (untaken _ settled settled refl refl)
-    (takes-keeps (turns.settled v) place ask answer after x)))
+    (both (turns.with_taken v rank ask) settled after (untaken _ settled settled refl refl)
+    (takes-keeps (turns.settled v) rank ask answer after x)))

@@ -10,8 +10,8 @@ use Rattle.like_core.specs.PageSteps.{step_adding}
 use Rattle.like_core.specs.Post.{pages_of}
 use Rattle.like_seat.proofs.WholeMerge.{merge_of}
 use Rattle.like_promises.specs.declared.log.Added.{Added}
-use Rattle.like_roles.specs.declared.worker.desk.Desk.{Desk}
-use Rattle.like_roles.specs.worker.Desk.{HasNoted, view_of}
+use Rattle.like_roles.specs.declared.worker.ledger.Ledger.{Ledger}
+use Rattle.like_roles.specs.worker.Ledger.{HasNoted, view_of}
 use Rattle.like_roles.specs.worker.Serve.{noted_at, noted_if}
 use Rattle.like_roles.specs.worker.Turns.{IsMerged}
 
@@ -34,15 +34,15 @@ noted-append notes at xs adds more =
     by_test false = refl
 
 -- the additions were noted, where additions are, and all else is as it was
-pub record HaveNoted (d0 d : Desk) (adds : List Addition) : Type 0 where
+pub record HaveNoted (d0 d : Ledger) (adds : List Addition) : Type 0 where
   pub noted : d.adds.items ≡ d0.adds.items ++ noted_if d0.notes (length d0.ran.items) adds
   pub rest : d ≡ record d0 { adds = d.adds }
 
-pub HaveNoted-none : (d : Desk) → HaveNoted d d []
+pub HaveNoted-none : (d : Ledger) → HaveNoted d d []
 HaveNoted-none d = record { noted = sym (noted-none d.notes (length d.ran.items) d.adds.items); rest = refl }
 
 -- one more was
-pub HaveNoted-more : (s : StationView Held) (d0 d e : Desk) (adds : List Addition) (phase page old n : ℕ)
+pub HaveNoted-more : (s : StationView Held) (d0 d e : Ledger) (adds : List Addition) (phase page old n : ℕ)
     → HaveNoted d0 d adds
     → HasNoted d e phase page old n
     → phase ≡ phase_at s
@@ -59,7 +59,7 @@ HaveNoted-more s d0 d e adds phase page old n have has phase_is n_is = record {
 }
 
 -- the worker has merged its slice
-pub IsMerged-noted : (s t : StationView Held) (d e : Desk) (adds : List Addition)
+pub IsMerged-noted : (s t : StationView Held) (d e : Ledger) (adds : List Addition)
     → Merges (phase_at s) s.slice (pages_of s.post) adds
     → t ≡ merge.merged s adds t.post.logged
     → merge.LogsSteps (map (step_adding s.post.worker) adds) s.post.logged t.post.logged

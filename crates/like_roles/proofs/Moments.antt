@@ -16,7 +16,7 @@ use Rattle.like_core.specs.Functions.{times, update}
 use Rattle.like_core.specs.PageSteps.{additions_among}
 use Rattle.like_core.specs.OpeningLimits.{run_limits}
 use Rattle.like_core.specs.Phase.{IsSplit}
-use Rattle.like_core.specs.Post.{KnowsSlices}
+use Rattle.like_core.specs.Post.{KnowsSplit}
 use Rattle.like_core.specs.WorkerState.{IsRunning}
 use Rattle.like_core.specs.core.Likes.{MayLike, given}
 use Rattle.like_core.specs.core.Moves.{LetsReturn}
@@ -29,7 +29,7 @@ use Rattle.like_core.proofs.Updates.{update-same}
 use Rattle.like_core.proofs.core.GivenLikes.{likes_stay_reachable}
 use Rattle.like_core.proofs.core.Moved.{nobody_returns, reached_is_exclusive}
 use Rattle.like_core.proofs.views.ViewSums.{added_to-le}
-use Rattle.like_core.proofs.views.SplitPages.{slices_are_split}
+use Rattle.like_core.proofs.views.SplitPages.{split_pages_agree}
 use Rattle.like_core.proofs.views.ViewLists.{sum_part}
 use Rattle.like_seat.proofs.Moments.{phase_run, posts_are_exclusive, state_at}
 use Rattle.like_roles.specs.worker.Moments.{AreHeldAt, HoldsAt, WorkersAreExclusive}
@@ -76,8 +76,8 @@ module _ (z : Opening) (m : Moment z) (i page likes : ℕ) (h : HoldsAt z m i pa
       let in_split = h.station.split page has_some in
       let odd = phase_run IsSplit h.of.post.state in_split.0 in
       let running : IsRunning h.of.post.state = subst IsRunning (sym odd.1.0) tt in
-      let knows : KnowsSlices h.of.post page = λ _ _ _. h.station.masked in_split.0 in
-      sym (slices_are_split z m h.at.place h.of.post page h.at.there running knows) ∙ in_split.1
+      let knows : KnowsSplit h.of.post page = λ _ _ _. h.station.masked in_split.0 in
+      sym (split_pages_agree z m h.at.place h.of.post page h.at.there running knows) ∙ in_split.1
 
   -- there is room for what it holds
   holder_room : likes ≤ sum_by (room_of z.limits page i) m.views

@@ -5,7 +5,7 @@ use Rattle.like_core.specs.declared.worker_state.WorkerState.{WorkerState}
 use Rattle.like_core.specs.declared.worker_state.WorkerState.TheVariants as state
 use Rattle.like_core.specs.Phase.{IsJoined, IsSplit}
 use Rattle.like_core.specs.WorkerState.{RunsJoined, RunsSome, RunsSplit, phase_of}
-use Rattle.like_core.specs.Post.{slices}
+use Rattle.like_core.specs.Post.{is_split_at}
 use Rattle.like_tables.specs.declared.held.Held.{Held}
 use Rattle.like_promises.specs.declared.log.Ran.{Ran}
 use Rattle.like_promises.specs.declared.reply.Reply.{Reply}
@@ -27,7 +27,7 @@ runs-joined state.Gone r even = absurd r
 -- what holds with one more like in the slice, and with one more on the board, holds once a like is counted
 pub counted_by : (P : WorkerView → Type 0) (v : WorkerView) (page old number : ℕ)
     → P (sliced v page) → P (with_addition v page old 1 number) → P (counted v page old number)
-counted_by P v page old number in_slice on_board = by_test (slices v.post page) where
+counted_by P v page old number in_slice on_board = by_test (is_split_at v.post page) where
   by_test : (b : Bool) → P (cond b (sliced v page) (with_addition v page old 1 number))
   by_test true = in_slice
   by_test false = on_board

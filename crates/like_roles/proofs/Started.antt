@@ -17,7 +17,7 @@ use Rattle.like_tables.specs.UserTable.{last_of}
 use Rattle.like_roles.specs.declared.terms.Terms.{Terms}
 use Rattle.like_roles.specs.declared.turn.Turn.{Turn}
 use Rattle.like_roles.specs.declared.turn.Turn.TheVariants as turn
-use Rattle.like_roles.specs.worker.Follows.{adds_to, ArePlainReads, Follows, IsDone, IsNoted, IsWorkloadOf, IsUnmerged, HasNothingLater, Stands, entry_held, next_joined}
+use Rattle.like_roles.specs.worker.Follows.{adds_to, ArePlainReads, Follows, IsDone, IsNoted, IsWorkloadOf, IsUnmerged, HasNothingLater, Stands, entry_stashed, next_joined}
 use Rattle.like_promises.specs.Likes.{likes_within}
 use Rattle.like_roles.specs.worker.New.{IsNew, IsPostOf}
 use Rattle.like_promises.specs.Order.{entry_of}
@@ -45,7 +45,7 @@ follows-new s terms worker post v workload p new same =
     let did_is : v.post.did ≡ [] = ap (λ x. x.did) (new.at_post ∙ p.fresh) in
     let additions : additions_among v.post.did ≡ [] = ap additions_among did_is in
     let state_is : v.post.state ≡ state.Runs 0 = ap (λ x. x.state) (new.at_post ∙ p.fresh) in
-    let held : v.held.held ≡ [] = ap (λ x. x.held) new.held in
+    let stashed : v.stash.looks ≡ [] = ap (λ x. x.looks) new.stash in
     let did : earliest_first v.post.did ≡ [] = ap earliest_first did_is in
     let masks : v.post.masks ≡ [] = ap (λ x. x.masks) (new.at_post ∙ p.fresh) in
     let nothing : (page : ℕ) → additions_of v.post page ≡ 0 = λ page. ap (added_to page) additions in
@@ -63,7 +63,7 @@ follows-new s terms worker post v workload p new same =
             ∙ sym (ap (λ x. x.share.submitters) new.last);
         marks_alike = sym marks_are;
         hot_alike = subst (AreMasksOf workload.hot) (sym masks) (All-nil (λ m. m.mask ≡ workload.hot m.phase));
-        stash_alike = same.stash_is ∙ sym (ap (λ x. x.capacity) new.held);
+        stash_alike = same.stash_is ∙ sym (ap (λ x. x.capacity) new.stash);
         run = ap (λ x. x.opening.limits) new.at_post ∙ p.opening.limits;
       };
       sized = record {
@@ -92,11 +92,11 @@ follows-new s terms worker post v workload p new same =
         λ i d inside. absurd (omega (arith, ap length new.adds)),
         λ page is. ap (adds_to 0 page) new.adds,
       );
-      in_order = rw (new.taken, new.ran, held) refl;
+      in_order = rw (new.taken, new.ran, stashed) refl;
       fits = λ phase. rw new.taken (omega arith);
-      held = λ i h k. absurd (omega (arith, ap length held));
+      stashed = λ i h k. absurd (omega (arith, ap length stashed));
       stands = subst (Stands v) (sym state_is) within;
-      trying = λ place e. absurd (cc (new.pending, e));
+      trying = λ rank e. absurd (cc (new.pending, e));
     }
 
 -- the slice of a worker that is gone is empty
@@ -131,7 +131,7 @@ follows-done workload v f gone s =
     in
     record {
       in_order = sym (append-nil _)
-          ∙ ap (λ hs. map entry_of v.ran ++ map (entry_held (next_joined v)) hs) (sym stands.0) ∙ f.in_order;
+          ∙ ap (λ hs. map entry_of v.ran ++ map (entry_stashed (next_joined v)) hs) (sym stands.0) ∙ f.in_order;
       fits = f.fits;
       likes = λ page. f.tallied.likes page ∙ omega (arith, empty-gone v gone s page);
       by_phase = in_phase;
@@ -161,24 +161,24 @@ works-pends : (v : WorkerView) (ending : Bool) (answer : Turn) (after : WorkerVi
     → v.pending ≡ None
     → Works v ending answer after
     → Pends answer after
-works-pends v ending answer after none (turns.runs_held first rest j e a run) =
+works-pends v ending answer after none (turns.runs_stashed first rest j e a run) =
     subst (λ x. Pends x after) (sym a) ((Runs-effects (turns.without_first v rest) first true after run).pending ∙ none)
 works-pends v ending answer after none (turns.retires j e ended a x) =
     subst (λ y. Pends y after) (sym a) (ap (λ y. y.pending) x ∙ none)
 works-pends v ending answer after none (turns.acknowledges j e ended seen a x) =
     subst (λ y. Pends y after) (sym a) (ap (λ y. y.pending) x ∙ none)
-works-pends v ending answer after none (turns.tries_joined place j e next seen a x) =
+works-pends v ending answer after none (turns.tries_joined rank j e next seen a x) =
     subst (λ y. Pends y after) (sym a)
-    (subst (λ y. Pends (turn.Try (submitter_at v place)) y) (sym x)
-    (place, (refl, refl, next.there, next.not_ended)))
+    (subst (λ y. Pends (turn.Try (submitter_at v rank)) y) (sym x)
+    (rank, (refl, refl, next.there, next.not_ended)))
 works-pends v ending answer after none (turns.reports now s seen a m x) =
     subst (λ y. Pends y after) (sym a) (ap (λ y. y.pending) x ∙ (ap (λ y. y.pending) m.1.1 ∙ none))
 works-pends v ending answer after none (turns.idles s seen stuck a x) =
     subst (λ y. Pends y after) (sym a) (ap (λ y. y.pending) x ∙ none)
-works-pends v ending answer after none (turns.tries_split place s seen room next a x) =
+works-pends v ending answer after none (turns.tries_split rank s seen room next a x) =
     subst (λ y. Pends y after) (sym a)
-    (subst (λ y. Pends (turn.Try (submitter_at v place)) y) (sym x)
-    (place, (refl, refl, next.there, next.not_ended)))
+    (subst (λ y. Pends (turn.Try (submitter_at v rank)) y) (sym x)
+    (rank, (refl, refl, next.there, next.not_ended)))
 
 pub turns-pends : (v : WorkerView) (answer : Turn) (after : WorkerView)
     → v.pending ≡ None
@@ -196,13 +196,13 @@ works-retired : (v : WorkerView) (ending : Bool) (answer : Turn) (after : Worker
     → Works v ending answer after
     → answer ≡ turn.Retired
     → after.post.state ≡ state.Gone
-works-retired v ending answer after (turns.runs_held first rest j e a run) r = cc (a, r)
+works-retired v ending answer after (turns.runs_stashed first rest j e a run) r = cc (a, r)
 works-retired v ending answer after (turns.retires j e ended a x) r = ap (λ y. y.post.state) x
 works-retired v ending answer after (turns.acknowledges j e ended seen a x) r = cc (a, r)
-works-retired v ending answer after (turns.tries_joined place j e next seen a x) r = cc (a, r)
+works-retired v ending answer after (turns.tries_joined rank j e next seen a x) r = cc (a, r)
 works-retired v ending answer after (turns.reports now s seen a m x) r = cc (a, r)
 works-retired v ending answer after (turns.idles s seen stuck a x) r = cc (a, r)
-works-retired v ending answer after (turns.tries_split place s seen room next a x) r = cc (a, r)
+works-retired v ending answer after (turns.tries_split rank s seen room next a x) r = cc (a, r)
 
 pub turns-retired : (v : WorkerView) (answer : Turn) (after : WorkerView)
     → Turns v answer after

@@ -3,10 +3,10 @@ pub mod WorkerView
 pub mod Serve
 pub mod Merges
 pub mod Turns
-pub mod Places
+pub mod Ranks
 pub mod New
 pub mod Judged
-pub mod Desk
+pub mod Ledger
 pub mod Follows
 pub mod Posted
 pub mod Work

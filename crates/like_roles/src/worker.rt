@@ -8,9 +8,9 @@ ghost use Rattle.like_roles.specs.worker.Follows.{Follows, IsAskedBy, IsDone, Is
 ghost use Rattle.like_promises.specs.Workload.{Workload};
 ghost use Rattle.like_roles.specs.worker.Turns.{CanGive, Gives, HasTaken, Pends, TakesNothing, Turns};
 
-mod desk;
 mod judged;
-mod places;
+mod ledger;
+mod ranks;
 mod tasks;
 
 pub use self::tasks::Work;
@@ -24,7 +24,7 @@ use std::marker::Model;
 
 /// A worker: it takes the requests of its submitters and runs them at its post, phase by phase.
 ///
-/// Its submitters are `w`, `w + N`, `w + 2 N`, .. for worker `w` of `N`; place `j` belongs to submitter `w + j N`.
+/// Its submitters are `w`, `w + N`, `w + 2 N`, .. for worker `w` of `N`; rank `j` belongs to submitter `w + j N`.
 #[derive(Drop)]
 pub struct Worker<P: Post> {
     post: P,
@@ -107,13 +107,13 @@ impl<P: Post> Worker<P> {
         ensures takes { TakesNothing self.old.worker self.new.worker }
         ensures pending { Pends result self.new.worker }
         ensures retired { result ≡ Turn.Retired → self.new.worker.post.state ≡ Gone }
-        ensures stash { 1 ≤ self.new.worker.held.capacity }
+        ensures stash { 1 ≤ self.new.worker.stash.capacity }
         ensures slice { IsSliceInSplit self.new.worker.post self.new.worker.slice }
     {
         self.work.turn(&mut self.post, gate)
     }
 
-    /// After `Try`, the place of the submitter that it tries.
+    /// After `Try`, the rank of the submitter that it tries.
     pub fn tried(&self) -> usize
         requires { IsSome self.now.worker.pending }
         ensures { self.now.worker.pending ≡ Some result }
@@ -131,7 +131,7 @@ impl<P: Post> Worker<P> {
             → Follows workload self.old.worker → Follows workload self.new.worker }
         ensures takes { HasTaken self.old.worker taken self.new.worker }
         ensures settled { self.new.worker.pending ≡ None }
-        ensures stash { 1 ≤ self.new.worker.held.capacity }
+        ensures stash { 1 ≤ self.new.worker.stash.capacity }
         ensures slice { IsSliceInSplit self.new.worker.post self.new.worker.slice }
     {
         self.work.give(&mut self.post, gate, taken)

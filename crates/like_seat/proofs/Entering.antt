@@ -1,4 +1,4 @@
--- A seat that enters the next phase.
+-- A station that enters the next phase.
 use Rattle.std.proofs.Common.{◌≡◌, ℕ, ◌+◌, ◌%◌, ◌==◌, ◌<◌, ◌≤◌, ◌⊎◌, ◌&&◌, ◌||◌, nat_lt, Bool, true, false, cond, List, [], ◌∷◌, length, get_or, sum, inl, inr, refl, sym, ap, subst, ◌∙◌, arith}
 use Rattle.std.specs.List.{list_any}
 use Rattle.std.proofs.lemmas.Bool.{and_from, and_parts, cases_eq, cond-true, eq-eqb, lt-ltb, ltb-true, or_right}
@@ -63,8 +63,8 @@ MayEnter-kept post looked t phase kept idle look =
     let may : MayEnter (ran post looked phase) t.slice phase = record {
       runs = refl;
       unread = refl;
-      limits = kept.seat.limits;
-      few_pages = kept.seat.few_pages;
+      limits = kept.station.limits;
+      few_pages = kept.station.few_pages;
       unsplit = record { slice = kept.slice; factor = kept.factor; none = splits-none post t.slice kept.splits idle };
       numbers = kept.numbers;
     } in subst (λ (p : WorkerSeatView). MayEnter p t.slice phase) (sym look) may
@@ -134,7 +134,7 @@ abbrev pub entered : WorkerSeatView → WorkerSeatView → ℕ → ℕ → Worke
 entered post looked phase mask =
     record (ran post looked phase) { masks = masks_entered post.masks phase mask }
 
--- the pages that are to be split are those that are sliced
+-- the pages that are to be split are those that are split
 fills : (post looked : WorkerSeatView) (phase mask : ℕ) (s : SplitSlice) → IsSplit phase
     → ((page : ℕ) → has_split s page ≡ (nat_lt page (pages_of post) && is_split_by post mask page))
     → SplitsPages (entered post looked phase mask) s
@@ -227,16 +227,16 @@ module _ {W C : Type 0} (post looked now : WorkerSeatView) (t after : Tables W C
         splits = s.splits;
         sums = ap (λ (xs : List ℕ). sum xs) same ∙ kept.sums ∙ sym (ap (λ (xs : List ℕ). sum xs) s.counts);
         likes = likes;
-        seat = record {
-          few_pages = kept.seat.few_pages;
-          limits = kept.seat.limits;
-          factor = kept.seat.factor;
+        station = record {
+          few_pages = kept.station.few_pages;
+          limits = kept.station.limits;
+          factor = kept.station.factor;
           within = within;
           sized = length-by_page after.slice n;
           masked = λ odd. entered-has post.masks phase mask odd;
           split = in-split at after.slice s.splits;
-          few = omega (arith, likes, kept.likes, kept.seat.few);
-          waiting = kept.seat.waiting;
+          few = omega (arith, likes, kept.likes, kept.station.few);
+          waiting = kept.station.waiting;
         };
       } in
       subst (λ (p : WorkerSeatView). IsKept p after) (sym now-entered) (subst (λ (x : Tables W C). IsKept at x) (sym e.rest) keeps)
@@ -263,16 +263,16 @@ IsKept-looked {W} {C} post now t sight number k look same =
       splits = k.splits;
       sums = k.sums;
       likes = k.likes;
-      seat = record {
-        few_pages = k.seat.few_pages;
-        limits = k.seat.limits;
-        factor = k.seat.factor;
-        within = k.seat.within;
-        sized = k.seat.sized;
-        masked = k.seat.masked;
-        split = k.seat.split;
-        few = k.seat.few;
-        waiting = k.seat.waiting;
+      station = record {
+        few_pages = k.station.few_pages;
+        limits = k.station.limits;
+        factor = k.station.factor;
+        within = k.station.within;
+        sized = k.station.sized;
+        masked = k.station.masked;
+        split = k.station.split;
+        few = k.station.few;
+        waiting = k.station.waiting;
       };
     } in subst (λ (p : WorkerSeatView). IsKept p t) (sym is) keeps
 

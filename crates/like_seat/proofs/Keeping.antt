@@ -1,4 +1,4 @@
--- The slice that a seat keeps, and what is true of it after each step.
+-- The slice that a station keeps, and what is true of it after each step.
 use Rattle.std.proofs.Common.{◌≡◌, ◌≢◌, ◌↔◌, ℕ, ◌+◌, ◌%◌, ◌==◌, ◌^◌, ◌<◌, ◌≤◌, ◌||◌, true, false, List, [], length, get_or, replicate, sum, inl, inr, refl, sym, ap, subst, ◌∙◌, arith}
 use Rattle.std.proofs.lemmas.Bool.{and_parts, cases_lt, eqb-true, false_from_ne_true}
 use Rattle.std.proofs.lemmas.List.{get_or_past}
@@ -12,15 +12,15 @@ use Rattle.like_core.specs.declared.page_step.PageStep.{PageStep}
 use Rattle.like_core.specs.Additions.{all_added}
 use Rattle.like_core.specs.OpeningLimits.{AreLimits, has_slots}
 use Rattle.like_core.specs.PhaseMasks.{mask_of}
-use Rattle.like_core.specs.Post.{KnowsSlices, answered, pages_of, slices}
+use Rattle.like_core.specs.Post.{KnowsSplit, answered, is_split_at, pages_of}
 use Rattle.like_core.specs.WorkerState.{IsRunning, RunsJoined, RunsSplit, phase_of}
 use Rattle.like_core.specs.PageSteps.{additions_among}
 use Rattle.like_core.specs.declared.view.WorkerSeatView.{WorkerSeatView}
 use Rattle.like_limits.specs.Buckets.{bucket, buckets}
 use Rattle.like_tables.specs.Liked.{AreUnliked}
 use Rattle.like_tables.specs.SplitPages.{SplitPages, is_split}
-use Rattle.like_tables.specs.SplitSlice.{AreUnsliced, HasNumbers, IsNextSliced, IsSplitSlice, SplitSlice, bucket_in, by_page, has_split, likes_in, no_slice, with_likes}
-use Rattle.like_tables.specs.Waiting.{IsWaiting, Waiting}
+use Rattle.like_tables.specs.SplitSlice.{HasNumbers, HaveNoLikes, IsNextLiked, IsSplitSlice, SplitSlice, bucket_in, by_page, has_split, likes_in, no_slice, with_likes}
+use Rattle.like_tables.specs.StashView.{IsStash, StashView}
 use Rattle.like_tables.proofs.ByPage.{by_page-none, by_page-with_likes, get_or-by_page, is_split-one, length-by_page, liked-split, likes_in-other}
 use Rattle.like_tables.proofs.Sliced.{IsSplitSlice-none, has_split-none}
 use Rattle.like_tables.proofs.Tagged.{bucket-lt}
@@ -36,15 +36,15 @@ runs-split (state.Runs k) runs odd = odd
 runs-split (state.Answered k) runs odd = absurd runs
 runs-split state.Gone runs odd = absurd runs
 
--- who runs a phase knows which pages are sliced in it
-pub knows-slices : (post : WorkerSeatView) (page : ℕ) → IsRunning post.state → HasPhaseMask post → KnowsSlices post page
-knows-slices post page runs masked = λ odd _ _. masked (runs-split post.state runs odd)
+-- who runs a phase knows which pages are split in it
+pub knows-split : (post : WorkerSeatView) (page : ℕ) → IsRunning post.state → HasPhaseMask post → KnowsSplit post page
+knows-split post page runs masked = λ odd _ _. masked (runs-split post.state runs odd)
 
--- its slice tells which pages are sliced in a phase that it runs
-pub has_split-slices : (post : WorkerSeatView) (s : SplitSlice) (page : ℕ) → SplitsPages post s → IsRunning post.state
-    → page < pages_of post → has_split s page ≡ slices post page
-has_split-slices post s page splits runs there =
-    same_tests (has_split s page) (slices post page) (λ held. ((splits page).0 held).2)
+-- its slice tells which pages are split in a phase that it runs
+pub has_split-at_post : (post : WorkerSeatView) (s : SplitSlice) (page : ℕ) → SplitsPages post s → IsRunning post.state
+    → page < pages_of post → has_split s page ≡ is_split_at post page
+has_split-at_post post s page splits runs there =
+    same_tests (has_split s page) (is_split_at post page) (λ stash. ((splits page).0 stash).2)
     (λ sliced.
     let odd = and_parts (phase_of post.state % 2 == 1)
     (is_marked post.opening.marks page || is_hot_by post.opening.limits.hot (mask_of post.masks (phase_of post.state)) page) sliced in
@@ -54,9 +54,9 @@ has_split-slices post s page splits runs there =
 pub splits-none : (post : WorkerSeatView) (s : SplitSlice) → SplitsPages post s → (RunsSplit post.state → ⊥)
     → (page : ℕ) → has_split s page ≡ false
 splits-none post s splits not_split page =
-    false_from_ne_true (has_split s page) (λ held. not_split ((splits page).0 held).0)
+    false_from_ne_true (has_split s page) (λ stash. not_split ((splits page).0 stash).0)
 
--- a page that has a like is there, and is sliced
+-- a page that has a like is there, and is split
 pub in-split : (post : WorkerSeatView) (s : SplitSlice) → SplitsPages post s → IsSliceInSplit post (by_page s (pages_of post))
 in-split post s splits page some =
     elim (cases_lt page (pages_of post)) [
@@ -77,7 +77,7 @@ likes_in-page post s page splits =
       | inr past ↦
           get_or_past (by_page s (pages_of post)) page 0 (omega (arith, length-by_page s (pages_of post)))
           ∙ sym (likes_in-other s page (false_from_ne_true (has_split s page)
-          (λ held. absurd (omega (arith, ((splits page).0 held).1)))))
+          (λ stash. absurd (omega (arith, ((splits page).0 stash).1)))))
     ]
 
 -- where no page of the list has a like, none has
@@ -93,7 +93,7 @@ likes_in-unliked post s splits none page =
 
 -- the next page of the slice that has a like
 pub IsNext-sliced : (post : WorkerSeatView) (s : SplitSlice) (f from page : ℕ) → IsSplitSlice s → s.splits.factor ≡ f
-    → SplitsPages post s → IsNextSliced s from page → IsNext f (by_page s (pages_of post)) from page
+    → SplitsPages post s → IsNextLiked s from page → IsNext f (by_page s (pages_of post)) from page
 IsNext-sliced post s f from page is factor splits next =
     let here : bucket_in s page ≡ bucket f page = ap (λ x. bucket x page) factor in
     let there : page < pages_of post = ((splits page).0 next.split).1 in
@@ -108,12 +108,12 @@ IsNext-sliced post s f from page is factor splits next =
             | inl before ↦ next.first other (omega arith) before
             | inr shared ↦
                 likes_in-other s other (false_from_ne_true (has_split s other)
-                (λ held. apart (is_split-one s.splits other page held next.split (omega arith))))
+                (λ stash. apart (is_split-one s.splits other page stash next.split (omega arith))))
           ];
     }
 
 pub NoneFrom-sliced : (post : WorkerSeatView) (s : SplitSlice) (f from : ℕ) → s.splits.factor ≡ f → SplitsPages post s
-    → AreUnsliced s from buckets → NoneFrom f (by_page s (pages_of post)) from
+    → HaveNoLikes s from buckets → NoneFrom f (by_page s (pages_of post)) from
 NoneFrom-sliced post s f from factor splits none page after =
     let same : bucket_in s page ≡ bucket f page = ap (λ x. bucket x page) factor in
     likes_in-page post s page splits
@@ -143,17 +143,17 @@ sum-zeros n = sum_by-replicate (λ x. x) n 0 ∙ omega arith
 pub Kept-written : {W C : Type 0} (post : WorkerSeatView) (d : List PageStep) (logged : List Logged)
     (t after : Tables W C)
     → IsKept post t
-    → after.marks.items ≡ t.marks.items → after.state ≡ t.state → after.held ≡ t.held
+    → after.marks.items ≡ t.marks.items → after.state ≡ t.state → after.stash ≡ t.stash
     → after.slice.splits ≡ t.slice.splits → length after.slice.counts ≡ length t.slice.counts → IsSplitSlice after.slice
     → sum (by_page after.slice (pages_of post)) ≡ sum after.slice.counts
     → after.likes.likes ≡ all_added (additions_among d) + sum (by_page after.slice (pages_of post))
     → after.likes.likes ≤ post.opening.limits.likes
     → IsKept (record post { did = d; logged = logged }) after
-Kept-written {W} {C} post d logged t after k marks state_is held splits long is sums likes few =
+Kept-written {W} {C} post d logged t after k marks state_is stash splits long is sums likes few =
     let now : WorkerSeatView = record post { did = d; logged = logged } in
     let split : SplitsPages now after.slice = λ page.
     subst (λ (s : SplitPages). (is_split s page ≡ true)
-    ↔ (RunsSplit post.state × (page < pages_of post) × (slices post page ≡ true))) (sym splits) (k.splits page) in
+    ↔ (RunsSplit post.state × (page < pages_of post) × (is_split_at post page ≡ true))) (sym splits) (k.splits page) in
     record {
       run = λ plain. subst (IsOfRun post.opening) (sym marks) (k.run plain);
       service = k.service;
@@ -165,16 +165,16 @@ Kept-written {W} {C} post d logged t after k marks state_is held splits long is 
       splits = split;
       sums = sums;
       likes = likes;
-      seat = record {
-        few_pages = k.seat.few_pages;
-        limits = k.seat.limits;
-        factor = k.seat.factor;
-        within = k.seat.within;
+      station = record {
+        few_pages = k.station.few_pages;
+        limits = k.station.limits;
+        factor = k.station.factor;
+        within = k.station.within;
         sized = length-by_page after.slice (pages_of post);
-        masked = k.seat.masked;
+        masked = k.station.masked;
         split = in-split now after.slice split;
         few = omega (arith, likes, few);
-        waiting = subst IsWaiting (sym held) k.seat.waiting;
+        waiting = subst IsStash (sym stash) k.station.waiting;
       };
     }
 
@@ -186,12 +186,12 @@ Kept-read {W} {C} post now d logged t k is same =
     subst (λ (p : WorkerSeatView). IsKept p t) (sym is)
     (Kept-written post d logged t t k refl refl refl refl refl k.slice k.sums
     (k.likes ∙ sym (ap (λ xs. all_added xs + sum (by_page t.slice (pages_of post))) same))
-    (omega (arith, k.likes, k.seat.few)))
+    (omega (arith, k.likes, k.station.few)))
 
 -- the tables hold other requests that wait
-pub Kept-holding : {W C : Type 0} (post : WorkerSeatView) (t : Tables W C) (held : Waiting W) → IsKept post t → IsWaiting held
-    → IsKept post (record t { held = held })
-Kept-holding {W} {C} post t held k waits = record {
+pub Kept-stashing : {W C : Type 0} (post : WorkerSeatView) (t : Tables W C) (stash : StashView W) → IsKept post t → IsStash stash
+    → IsKept post (record t { stash = stash })
+Kept-stashing {W} {C} post t stash k waits = record {
   run = k.run;
   service = k.service;
   state = k.state;
@@ -201,15 +201,15 @@ Kept-holding {W} {C} post t held k waits = record {
   splits = k.splits;
   sums = k.sums;
   likes = k.likes;
-  seat = record {
-    few_pages = k.seat.few_pages;
-    limits = k.seat.limits;
-    factor = k.seat.factor;
-    within = k.seat.within;
-    sized = k.seat.sized;
-    masked = k.seat.masked;
-    split = k.seat.split;
-    few = k.seat.few;
+  station = record {
+    few_pages = k.station.few_pages;
+    limits = k.station.limits;
+    factor = k.station.factor;
+    within = k.station.within;
+    sized = k.station.sized;
+    masked = k.station.masked;
+    split = k.station.split;
+    few = k.station.few;
     waiting = waits;
   };
 }
@@ -238,16 +238,16 @@ Kept-left {W} {C} post now t s k joined idle within is =
       splits = λ page. (λ has. absurd (unsplit ((k.splits page).0 has).0), λ runs. absurd (idle runs.0));
       sums = k.sums;
       likes = k.likes;
-      seat = record {
-        few_pages = k.seat.few_pages;
-        limits = k.seat.limits;
-        factor = k.seat.factor;
-        within = omega (arith, within, k.seat.within);
-        sized = k.seat.sized;
+      station = record {
+        few_pages = k.station.few_pages;
+        limits = k.station.limits;
+        factor = k.station.factor;
+        within = omega (arith, within, k.station.within);
+        sized = k.station.sized;
         masked = λ runs. absurd (idle runs);
-        split = λ page some. absurd (unsplit (k.seat.split page some).0);
-        few = k.seat.few;
-        waiting = k.seat.waiting;
+        split = λ page some. absurd (unsplit (k.station.split page some).0);
+        few = k.station.few;
+        waiting = k.station.waiting;
       };
     } in subst (λ (p : WorkerSeatView). IsKept p left) (sym is) keeps
 
@@ -268,9 +268,9 @@ pub Kept-unsplit : {W C : Type 0} (post : WorkerSeatView) (t : Tables W C) (fact
     → t.likes.likes ≡ all_added (additions_among post.did) + sum (by_page t.slice (pages_of post))
     → t.likes.likes ≤ post.opening.limits.likes
     → pages_of post ≤ post.opening.limits.pages → AreLimits post.opening.limits
-    → phase_of post.state ≤ post.opening.limits.last_phase → IsWaiting t.held
+    → phase_of post.state ≤ post.opening.limits.last_phase → IsStash t.stash
     → IsKept post t
-Kept-unsplit {W} {C} post t factor many not_split slice_is factor_is below numbers run service state_is likes few few_pages limits within held =
+Kept-unsplit {W} {C} post t factor many not_split slice_is factor_is below numbers run service state_is likes few few_pages limits within stash =
     let splits : SplitsPages post t.slice = λ page. (
       λ has. absurd (cc (ap (λ (s : SplitSlice). has_split s page) slice_is, has_split-none factor many page, has)),
       λ runs. absurd (not_split runs.0),
@@ -289,7 +289,7 @@ Kept-unsplit {W} {C} post t factor many not_split slice_is factor_is below numbe
           ∙ sum-zeros (pages_of post) ∙ sym (sum-zeros many)
           ∙ sym (ap (λ (s : SplitSlice). sum s.counts) slice_is);
       likes = likes;
-      seat = record {
+      station = record {
         few_pages = few_pages;
         limits = limits;
         factor = λ plain. (run plain).factor;
@@ -298,6 +298,6 @@ Kept-unsplit {W} {C} post t factor many not_split slice_is factor_is below numbe
         masked = λ runs. absurd (not_split runs);
         split = in-split post t.slice splits;
         few = omega (arith, likes, few);
-        waiting = held;
+        waiting = stash;
       };
     }

@@ -1,4 +1,4 @@
--- What a look leaves true of a seat.
+-- What a look leaves true of a station.
 use Rattle.std.proofs.Common.{◌≡◌, ℕ, ◌+◌, ◌%◌, ◌==◌, ◌≤◌, ◌||◌, Bool, true, false, cond, List, ◌∷◌, ap, sym, ◌∙◌, subst, refl, eq-eqb, arith}
 use Rattle.std.specs.List.{list_any}
 use Rattle.std.proofs.lemmas.Bool.{cond-false, cond-true, ne_eqb}
@@ -8,7 +8,7 @@ use Rattle.like_core.specs.declared.worker_state.WorkerState.{WorkerState}
 use Rattle.like_core.specs.declared.worker_state.WorkerState.TheVariants as state
 use Rattle.like_core.specs.WorkerState.{IsRunning, IsSightOf, RunsSplit, SeesEndingStill, phase_of, seen}
 use Rattle.like_core.specs.PhaseMasks.{HasMask}
-use Rattle.like_core.specs.Post.{looked_at, number_of, slices}
+use Rattle.like_core.specs.Post.{is_split_at, looked_at, number_of}
 use Rattle.like_core.specs.declared.view.WorkerSeatView.{WorkerSeatView}
 use Rattle.like_seat.specs.declared.tables.Tables.{Tables}
 use Rattle.like_seat.specs.Kept.{Enters, IsKept, MayEnter, view_of}
@@ -72,7 +72,7 @@ module _ {W C : Type 0} (board there : List ℕ) (post looked : WorkerSeatView) 
     (kept : IsKept post t) (here : there ≡ board) (sees : IsSightOf post.state sight)
     (ending : SeesEndingStill post.state post.last sight)
     (look : looked ≡ looked_at post sight (number_of looked)) where
-  -- a seat looks, and stays in its phase
+  -- a station looks, and stays in its phase
   pub looks-stayed : seen post.state sight ≡ post.state
       → IsKept looked t × LooksAndEnters (view_of board post t) sight (view_of there looked t)
   looks-stayed same =
@@ -84,7 +84,7 @@ module _ {W C : Type 0} (board there : List ℕ) (post looked : WorkerSeatView) 
           looks = (0, λ m. view_of (here m) ((look ∙ sym (saw-same post sight 0 (number_of looked) same)) m) t);
           runs = λ goes. subst (λ (p : WorkerSeatView). IsRunning p.state) (sym look)
               (runs-after post.state sight sees goes);
-          seat = keeps.seat;
+          station = keeps.station;
         },
       )
 
@@ -128,7 +128,7 @@ module _ {W C : Type 0} (board there : List ℕ) (post looked : WorkerSeatView) 
               λ m. record (view_of board post t) {
                 board = (same ∙ here) m;
                 post = is_now m;
-                held = (e.rest m).held;
+                stash = (e.rest m).stash;
                 slice = slice m;
                 sliced = (e.rest m).sliced.likes;
                 last = (e.rest m).last;
@@ -136,7 +136,7 @@ module _ {W C : Type 0} (board there : List ℕ) (post looked : WorkerSeatView) 
             );
             runs = λ _. subst (λ (p : WorkerSeatView). IsRunning p.state) (sym is_now)
                 (runs-after post.state sight sees goes);
-            seat = keeps.seat;
+            station = keeps.station;
           },
         )
 
@@ -147,13 +147,13 @@ pub splits-after : (post : WorkerSeatView) (slice : List ℕ) (sight : Sight) (m
 splits-after post slice sight mask number kept page some = by_state post.state refl (kept page some).0
   where
     by_state : (s : WorkerState) → post.state ≡ s → RunsSplit s
-        → RunsSplit (saw_at post sight mask number).state × (slices (saw_at post sight mask number) page ≡ true)
+        → RunsSplit (saw_at post sight mask number).state × (is_split_at (saw_at post sight mask number) page ≡ true)
     by_state (state.Runs k) is odd =
         let seen_is : seen post.state sight ≡ post.state = ap (λ s. seen s sight) is ∙ sym is in
         let saw_is : saw_at post sight mask number ≡ record (looked_at post sight number) { state = post.state } =
         saw-same post sight mask number seen_is
         ∙ (λ m. record (looked_at post sight number) { state = seen_is m }) in
-        subst (λ (p : WorkerSeatView). RunsSplit p.state × (slices p page ≡ true)) (sym saw_is) (kept page some)
+        subst (λ (p : WorkerSeatView). RunsSplit p.state × (is_split_at p page ≡ true)) (sym saw_is) (kept page some)
     by_state (state.Answered k) is odd = absurd odd
     by_state state.Gone is odd = absurd odd
 

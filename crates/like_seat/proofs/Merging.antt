@@ -12,10 +12,10 @@ use Rattle.like_tables.specs.SplitSlice.{IsSplitSlice, SplitSlice, bucket_in, by
 use Rattle.like_tables.proofs.ByPage.{by_page-none}
 use Rattle.like_seat.specs.declared.tables.Tables.{Tables}
 use Rattle.like_seat.specs.Kept.{IsKept}
-use Rattle.like_seat.proofs.Keeping.{Kept-unsplit, Kept-written, by_page-no_slice, knows-slices, sum-written}
+use Rattle.like_seat.proofs.Keeping.{Kept-unsplit, Kept-written, by_page-no_slice, knows-split, sum-written}
 use Rattle.like_seat.proofs.MergedLikes.{all_added-push}
 
--- a seat that has merged its slice may answer
+-- a station that has merged its slice may answer
 pub IsKept-reported : {W C : Type 0} (post : WorkerSeatView) (t : Tables W C) (phase : ℕ)
     → IsKept post t
     → ((page : ℕ) → likes_in t.slice page ≡ 0)
@@ -32,7 +32,7 @@ IsKept-reported post t phase k none is =
     k.factor k.slice.pages.factor
     (λ page there. omega (arith, k.numbers page there, length-replicate {A = ℕ} m 0)) k.run
     k.service (ap (λ n. Answered n) (ap phase_of k.state ∙ sym is)) likes
-    (omega (arith, k.likes, k.seat.few)) k.seat.few_pages k.seat.limits k.seat.within k.seat.waiting
+    (omega (arith, k.likes, k.station.few)) k.station.few_pages k.station.limits k.station.within k.station.waiting
 
 -- a page's likes were added to its count, and taken out of the slice
 pub IsKept-merged : {W C : Type 0} (post : WorkerSeatView) (t : Tables W C) (page old likes number : ℕ)
@@ -55,7 +55,7 @@ IsKept-merged {W} {C} post t page old likes number after k split likes_are is to
     Kept-written post now.did now.logged t (record t { slice = after }) k refl refl refl
     (ap (λ (s : SplitSlice). s.splits) is)
     (ap (λ (s : SplitSlice). length s.counts) is ∙ length-set t.slice.counts (bucket_in t.slice page) 0) lawful sums
-    (omega (arith, k.likes, k.sums, total, sums, more)) (omega (arith, k.likes, k.seat.few))
+    (omega (arith, k.likes, k.sums, total, sums, more)) (omega (arith, k.likes, k.station.few))
 
 -- who runs a split phase runs a phase
 split-runs : (s : WorkerState) → RunsSplit s → IsRunning s
@@ -78,8 +78,8 @@ may-merge post t page likes after k split liked likes_are total ending =
     record {
       runs = runs;
       there = own.1;
-      known = knows-slices post page runs k.seat.masked;
+      known = knows-split post page runs k.station.masked;
       like = λ plain. absurd (cc (plain, own.2));
       merge = λ _. (omega (arith, liked, likes_are), ending);
-      few = omega (arith, k.seat.few, k.sums, total);
+      few = omega (arith, k.station.few, k.sums, total);
     }

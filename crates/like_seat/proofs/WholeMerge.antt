@@ -75,7 +75,7 @@ logs-more worker own number adds new before logged logs is =
     }
 
 module _ {W : Type 0} where
-  -- the seat after pages were merged by these additions, with this slice and these entries
+  -- the station after pages were merged by these additions, with this slice and these entries
   abbrev pub merged_with : StationView W → List Addition → List ℕ → List Logged → StationView W
   merged_with s adds slice logged = record s {
     post = record s.post {

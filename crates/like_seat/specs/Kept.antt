@@ -1,4 +1,5 @@
--- How a seat is kept: `W` is what waits, and `C` and `T` keep the likes of its slice and the numbers of their buckets.
+-- How a station is kept: `W` is what waits, and `C` and `T` keep the likes of its slice and the numbers of their
+-- buckets.
 use Rattle.std.specs.Prelude.{◌≡◌, ◌↔◌, ℕ, ◌+◌, ◌<◌, ◌≤◌, nat_lt, Bool, true, false, ◌&&◌, ◌||◌, List, [], length, sum}
 use Rattle.like_core.specs.Functions.{has_bit}
 use Rattle.like_core.specs.declared.opening.Opening.{Opening}
@@ -6,7 +7,7 @@ use Rattle.like_core.specs.Additions.{all_added}
 use Rattle.like_core.specs.PageSteps.{additions_among}
 use Rattle.like_core.specs.OpeningLimits.{AreLimits, has_slots}
 use Rattle.like_core.specs.Phase.{IsJoined, IsSplit, is_hot, is_hot_by, is_marked}
-use Rattle.like_core.specs.Post.{IsFresh, pages_of, slices}
+use Rattle.like_core.specs.Post.{IsFresh, is_split_at, pages_of}
 use Rattle.like_core.specs.Slots.{IsInSlot}
 use Rattle.like_core.specs.WorkerState.{RunsSplit}
 use Rattle.like_core.specs.declared.view.WorkerSeatView.{WorkerSeatView}
@@ -19,23 +20,23 @@ use Rattle.like_seat.specs.StationView.{IsStationOf, StationView}
 use Rattle.like_seat.specs.Steps.{masks_entered}
 use Rattle.like_seat.specs.declared.tables.Tables.{Tables}
 
--- the seat of a post and what is kept beside it
+-- the station of a post and what is kept beside it
 abbrev pub view_of : {W C : Type 0} → List ℕ → WorkerSeatView → Tables W C → StationView W
 view_of board post t = record {
   board = board;
   post = post;
-  held = t.held;
+  stash = t.stash;
   slice = by_page t.slice (pages_of post);
   sliced = t.sliced.likes;
   last = t.last;
 }
 
--- its slice has just those pages split that are sliced in the split phase that it runs, and none in any other
+-- its slice has just the pages that are split in the split phase that it runs, and none in any other
 abbrev pub SplitsPages : WorkerSeatView → SplitSlice → Type 0
 SplitsPages post s =
     (page : ℕ)
     → (has_split s page ≡ true)
-    ↔ (RunsSplit post.state × (page < pages_of post) × (slices post page ≡ true))
+    ↔ (RunsSplit post.state × (page < pages_of post) × (is_split_at post page ≡ true))
 
 -- a board of a run, with these marks: there are no more pages than buckets, and page i has bucket i
 pub record IsOfRun (z : Opening) (its : List Bool) : Type 0 where
@@ -67,14 +68,14 @@ pub record IsKept {W C : Type 0} (post : WorkerSeatView) (t : Tables W C) : Type
   pub splits : SplitsPages post t.slice
   pub sums : sum (by_page t.slice (pages_of post)) ≡ sum t.slice.counts
   pub likes : t.likes.likes ≡ all_added (additions_among post.did) + sum (by_page t.slice (pages_of post))
-  pub seat : IsStationOf post t.held (by_page t.slice (pages_of post))
+  pub station : IsStationOf post t.stash (by_page t.slice (pages_of post))
 
--- the tables of a seat that has done nothing yet, with these marks and this slice, which is empty
+-- the tables of a station that has done nothing yet, with these marks and this slice, which is empty
 pub record AreNew {W C : Type 0} (marks : List Bool) (empty : SplitSlice) (room : ℕ) (users : UserTable) (t : Tables W C)
     : Type 0 where
   pub marks_are : t.marks.items ≡ marks
   pub state : t.state ≡ Runs 0
-  pub held : t.held ≡ record { held = []; capacity = room }
+  pub stash : t.stash ≡ record { looks = []; capacity = room }
   pub slice : t.slice ≡ empty
   pub sliced : t.sliced.likes ≡ []
   pub likes : t.likes.likes ≡ 0

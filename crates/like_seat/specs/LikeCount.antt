@@ -1,7 +1,7 @@
--- How the number of a seat's likes is kept.
+-- How the number of a station's likes is kept.
 use Rattle.std.specs.Prelude.{ℕ, ◌^◌, ◌<◌, ◌≤◌}
 
--- how many likes a seat has counted, and for how many more there is room
+-- how many likes a station has counted, and for how many more there is room
 pub record LikeCountView : Type 0 where
   pub likes : ℕ
   pub left : ℕ

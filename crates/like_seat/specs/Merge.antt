@@ -19,7 +19,7 @@ pub record MergesAll (factor phase : ℕ) (slice : List ℕ) (adds : List Additi
   pub sums : (page : ℕ) → added_to page adds ≡ slice_index slice page
   pub in_order : IsStrictlyIncreasing (map (λ a. bucket factor a.page) adds)
 
--- a seat's entries in the board's log go on with these steps, one after the other, each with a number
+-- a station's entries in the board's log go on with these steps, one after the other, each with a number
 pub record LogsSteps (steps : List PageStep) (before after : List Logged) : Type 0 where
   pub since : List Logged
   pub made : map (λ e. e.entry) since ≡ map (λ s. Did s) (then_steps [] steps)

@@ -1,8 +1,8 @@
--- A like that a seat counted in its slice.
+-- A like that a station counted in its slice.
 use Rattle.std.specs.Prelude.{ℕ, List, refl}
 use Rattle.std.specs.Coded.{Coded, code_by, coded×, coded_ℕ, coded_list}
 
--- its page, and how many looks the seat had made before
+-- its page, and how many looks the station had made before
 pub record SlicedLike : Type 0 where
   pub page : ℕ
   pub looks : ℕ

@@ -1,24 +1,23 @@
--- What a worker's seat is, as contracts see it.
+-- What a worker's station is, as contracts see it.
 use Rattle.std.specs.Prelude.{◌≡◌, ◌≢◌, ℕ, ◌+◌, ◌≤◌, false, true, List, length, slice_index, sum}
 use Rattle.like_core.specs.Additions.{all_added}
 use Rattle.like_core.specs.OpeningLimits.{AreLimits, has_slots}
 use Rattle.like_core.specs.PhaseMasks.{HasMask}
-use Rattle.like_core.specs.Post.{additions_of, pages_of, slices}
+use Rattle.like_core.specs.Post.{additions_of, is_split_at, pages_of}
 use Rattle.like_core.specs.WorkerState.{RunsSplit, phase_of}
 use Rattle.like_core.specs.PageSteps.{additions_among}
 use Rattle.like_core.specs.declared.view.WorkerSeatView.{WorkerSeatView}
 use Rattle.like_limits.specs.Buckets.{run_factor}
 use Rattle.like_seat.specs.SlicedLike.{SlicedLike}
 use Rattle.like_tables.specs.UserTable.{UserTable}
-use Rattle.like_tables.specs.Waiting.{IsWaiting, Waiting}
+use Rattle.like_tables.specs.StashView.{IsStash, StashView}
 
--- the numbers that tell its board from others; its post; what it holds, which is its stash in a split phase and its
--- backlog in a joined one; its slice, a number for each page; all likes that ever went into its slice, in order; and the
--- last likes of its users
+-- the numbers that tell its board from others; its post; its stash, which is its backlog in a joined phase; its slice,
+-- a number for each page; all likes that ever went into its slice, in order; and the last likes of its users
 pub record StationView (W : Type 0) : Type 0 where
   pub board : List ℕ
   pub post : WorkerSeatView
-  pub held : Waiting W
+  pub stash : StashView W
   pub slice : List ℕ
   pub sliced : List SlicedLike
   pub last : UserTable
@@ -42,12 +41,12 @@ HasPhaseMask post = RunsSplit post.state → HasMask (phase_of post.state) post.
 -- a slice that is not empty belongs to a worker that runs a split phase, and has pages that are split in it alone
 abbrev pub IsSliceInSplit : WorkerSeatView → List ℕ → Type 0
 IsSliceInSplit post slice =
-    (page : ℕ) → slice_index slice page ≢ 0 → RunsSplit post.state × (slices post page ≡ true)
+    (page : ℕ) → slice_index slice page ≢ 0 → RunsSplit post.state × (is_split_at post page ≡ true)
 
 -- what is true of every post, and what waits and is in a slice beside it: its board's limits are lawful, and its pages and
 -- its phase are within them; in a run page i has bucket i; the slice has a number for each page; at most as many likes were
 -- counted as a worker may add; and no more waits than there is room for
-pub record IsStationOf {W : Type 0} (post : WorkerSeatView) (held : Waiting W) (slice : List ℕ) : Type 0 where
+pub record IsStationOf {W : Type 0} (post : WorkerSeatView) (stash : StashView W) (slice : List ℕ) : Type 0 where
   pub few_pages : pages_of post ≤ post.opening.limits.pages
   pub limits : AreLimits post.opening.limits
   pub factor : has_slots post.opening.limits ≡ false → post.opening.factor ≡ run_factor
@@ -56,8 +55,8 @@ pub record IsStationOf {W : Type 0} (post : WorkerSeatView) (held : Waiting W) (
   pub masked : HasPhaseMask post
   pub split : IsSliceInSplit post slice
   pub few : all_added (additions_among post.did) + sum slice ≤ post.opening.limits.likes
-  pub waiting : IsWaiting held
+  pub waiting : IsStash stash
 
--- that is true of a seat
+-- that is true of a station
 abbrev pub IsStation : {W : Type 0} → StationView W → Type 0
-IsStation s = IsStationOf s.post s.held s.slice
+IsStation s = IsStationOf s.post s.stash s.slice

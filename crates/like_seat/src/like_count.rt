@@ -1,10 +1,10 @@
-//! How many likes a seat has counted, and how many it may count before it is asked again.
+//! How many likes a station has counted, and how many it may count before it is asked again.
 ghost use Rattle.std.specs.Prelude.{◌≡◌, ◌+◌, ◌-◌, ◌^◌, ◌<◌, false, min, IsTrue};
 
 use std::marker::Model;
 
-// The most likes that a seat may count by the room that it was given.
-const MOST: u64 = 1 << 56;
+/// The most likes that a station may count.
+pub const MAX_LIKES: u64 = 1 << 56;
 
 // Where numbers are that were taken below 0.
 const BELOW_ZERO: u64 = 1 << 63;
@@ -110,7 +110,7 @@ impl LikeCount {
         ensures left { self.new.left ≡ min (2 ^ 56 - self.old.likes) room }
     {
         let likes = self.likes();
-        let room = MOST.saturating_sub(likes).min(room);
+        let room = MAX_LIKES.saturating_sub(likes).min(room);
         self.end = likes + room;
         self.left = room;
     }

@@ -1,4 +1,4 @@
-/// The likes of a page that a seat added to the page's count from its slice.
+/// The likes of a page that a station added to the page's count from its slice.
 #[derive(Clone, Copy, PartialEq, Eq)]
 pub struct Merged {
     pub page: u32,

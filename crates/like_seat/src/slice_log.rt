@@ -6,8 +6,8 @@ ghost use Rattle.like_seat.specs.SlicedLike.{SlicedLike, likes_code, sliced_like
 use like_core::Post;
 use std::marker::Model;
 
-/// The likes that a seat counted in its slice, in order, each with how many looks came before it: so that a batch can't
-/// count a like before the look that it belongs to.
+/// The likes that a station counted in its slice, in order, each with how many looks came before it: so that a batch
+/// can't count a like before the look that it belongs to.
 #[derive(Drop)]
 pub(crate) struct SliceLog {
     pub ghost likes: { List SlicedLike } by { likes_code },
@@ -29,7 +29,7 @@ impl SliceLog {
         SliceLog {}
     }
 
-    // With one more, of a seat at this post.
+    // With one more, of a station at this post.
     #[inline(always)]
     pub fn then<P: Post>(&self, _post: &P, _page: u32) -> SliceLog
         ensures { result.likes ≡ self.now.likes

@@ -43,7 +43,7 @@ impl<P: Post, W: Copy, C: Counts> Model for Station<P, W, C> {
     ghost invariant = { λ s. IsKept (P.view s.post) s.tables };
 }
 
-/// There is no memory for a seat. The post is given back.
+/// There is no memory for a station. The post is given back.
 #[derive(Drop)]
 pub struct NoStation<P: Post> {
     pub post: P,
@@ -54,7 +54,7 @@ impl<P: Post, W: Copy, C: Counts> Station<P, W, C> {
     #[inline(always)]
     pub fn phase(&self) -> u64
         ensures phase { result ≡ phase_at self.now }
-        ensures seat { IsStation self.now }
+        ensures station { IsStation self.now }
     {
         self.tables.phase()
     }
@@ -71,7 +71,7 @@ impl<P: Post, W: Copy, C: Counts> Station<P, W, C> {
     #[inline(always)]
     pub fn likes(&self) -> u64
         ensures likes { result ≡ likes_of self.now }
-        ensures seat { IsStation self.now }
+        ensures station { IsStation self.now }
     {
         self.tables.likes.likes()
     }
@@ -103,7 +103,7 @@ impl<P: Post, W: Copy, C: Counts> Station<P, W, C> {
     pub fn leave(self) -> P
         ensures board { P.board result ≡ self.board }
         ensures post { P.view result ≡ self.post }
-        ensures seat { IsStation self }
+        ensures station { IsStation self }
     {
         let Station { post, .. } = self;
         post

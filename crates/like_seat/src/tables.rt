@@ -20,7 +20,7 @@ use like_core::{Post, SlotPost, WorkerState, is_hot};
 use like_tables::{BucketCounts, Counts, Slice, SplitSlice, Stash, Users};
 use std::alloc::{AllocError, Global};
 
-/// What a seat keeps beside its post.
+/// What a station keeps beside its post.
 ///
 /// `W` is what waits for the next joined phase. `C` has the likes of its slice, and `T` the numbers of their buckets.
 #[derive(Drop)]
@@ -30,7 +30,7 @@ pub struct Tables<W: Copy, C: Counts> {
     /// The state of its post.
     pub(crate) state: WorkerState,
     /// What waits for the next joined phase, and in that phase what is left of it.
-    pub(crate) held: Stash<W>,
+    pub(crate) stash: Stash<W>,
     /// Which pages are split in the phase that it runs, and the likes that it has counted of them.
     pub(crate) slice: SplitSlice<C>,
     /// The likes that went into the slice.
@@ -42,7 +42,7 @@ pub struct Tables<W: Copy, C: Counts> {
 }
 
 impl<W: Copy, C: Counts> Tables<W, C> {
-    // The tables of a seat that has done nothing yet, with this slice.
+    // The tables of a station that has done nothing yet, with this slice.
     fn new(
         alloc: Global,
         marks: Vec<bool>,
@@ -57,7 +57,7 @@ impl<W: Copy, C: Counts> Tables<W, C> {
         Ok(Tables {
             marks,
             state: WorkerState::Runs(0),
-            held: Stash::new(alloc, room)?,
+            stash: Stash::new(alloc, room)?,
             slice,
             sliced: SliceLog::new(),
             likes: LikeCount::none(),
@@ -89,7 +89,7 @@ impl<W: Copy> Tables<W, Slice> {
 }
 
 impl<W: Copy> Tables<W, BucketCounts> {
-    // The same of a service.
+    // The tables of a station of a service that has done nothing yet, at a board with this factor for buckets.
     pub(crate) fn of_service(
         alloc: Global,
         factor: u32,
@@ -161,7 +161,8 @@ impl<W: Copy, C: Counts> Tables<W, C> {
         split_pages(&mut self.slice, &self.marks, mask);
     }
 
-    // The same in a service, where the post reads the slots of a split phase, and the pages in those in use are split.
+    // Runs the phase that was released, in a service. In a split one the post reads the slots, and the pages in those
+    // in use are split.
     #[cold]
     #[inline(never)]
     pub(crate) fn enter_slots<P: SlotPost>(&mut self, post: &mut P, phase: u64)

@@ -25,7 +25,7 @@ calls_of (deed.ComeBack answer) = come_back answer ∷ []
 calls_of (deed.Last user answer) = []
 calls_of (deed.Lasts from pages is_done) = []
 
--- the last likes of a seat's users, from a place on, are told if it has so many users
+-- the last likes of a seat's users from a rank on, are told if it has so many users
 pub record TellsLasts (v : LiveView) (from : ℕ) (pages : List ℕ) (is_done : Bool) : Type 0 where
   pub there : IsTrue is_done ↔ (from + length pages ≤ users_of v)
   pub lasts : IsTrue is_done → AreLastsAt v from pages

@@ -177,8 +177,9 @@ impl Client {
         self.row(service, seat, &LikeRow { likes }, &mut [])
     }
 
-    /// Writes the last likes of a seat's users, from place `from` on: each one's page, or `NO_PAGE`. At place `i` of seat
-    /// `s` is user `i * seats + s`. The answer says whether the seat has so many users. Otherwise nothing is written.
+    /// Writes the last likes of a seat's users from rank `from` on: each one's page, or `NO_PAGE`. With rank `i` at
+    /// seat `s` is user `i * seats + s`. The answer says whether the seat has so many users. Otherwise nothing is
+    /// written.
     pub fn lasts(
         &mut self,
         service: &SharedService,

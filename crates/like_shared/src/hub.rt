@@ -228,7 +228,8 @@ impl Hub {
         }
     }
 
-    /// The same if all cards are back: what the keeper has is what their logs say.
+    /// Ends its service, once all seats are gone and all cards are back, and writes each page's last count: what the
+    /// keeper has is what their logs say.
     pub fn close_with(self, cards: Cards, counts: &mut [u64]) -> Result<(), NotClosed>
         requires cards { IsKeeper self.desk cards }
         requires back { cards.out ≡ 0 }

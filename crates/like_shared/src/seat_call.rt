@@ -123,7 +123,7 @@ fn tell<Q: SeatCall, J: Done<SeatDeed>>(
     lock.give_back_after::<J>(pass);
 }
 
-// The same, and keeps the seat.
+// Tells the call's deed, and keeps the seat.
 #[inline(always)]
 fn note<Q: SeatCall, J: Done<SeatDeed>>(
     lock: &SeatLock,

@@ -135,7 +135,7 @@ fn tell<Q: SeatRow, J: Done<SeatDeed>>(
     lock.give_back_after::<J>(pass);
 }
 
-// The same, and keeps the seat.
+// Tells the row's deeds, and keeps the seat.
 fn note<Q: SeatRow, J: Done<SeatDeed>>(
     lock: &SeatLock,
     pass: &mut FreePass,

@@ -67,7 +67,7 @@ fn count_likes(seat: &mut Seat, likes: &[LikePair]) -> RowAnswer
     seat.like_row(likes)
 }
 
-/// The last likes of a seat's users from place `from` on are told, if it has so many users.
+/// The last likes of a seat's users from rank `from` on are told, if it has so many users.
 #[derive(Clone, Copy)]
 pub struct LastsRow {
     pub from: u32,

@@ -1,4 +1,4 @@
--- The place of a user at its home: what is computed is division by the number of seats.
+-- The rank of a user at its home: what is computed is division by the number of seats.
 use Rattle.std.proofs.Common.{◌≡◌, ℕ, zero, suc, ◌+◌, ◌-◌, ◌*◌, ◌/◌, ◌%◌, ◌^◌, ◌<◌, ◌≤◌, inl, inr, sym, ap, ◌∙◌, arith, w32}
 use Rattle.std.specs.Int.{bit_at, rotate_right, trailing_zeros}
 use Rattle.std.proofs.Math.Nat.{mod-eq_of_lt, mul_assoc, mul_comm, pow-suc}
@@ -49,7 +49,7 @@ power-le h inverse turn k =
           omega (arith, k.whole, mul-le 1 (2 ^ turn) (odd_part h.seats turn) (2 ^ turn) (omega arith) (omega arith))
     ]
 
--- a place times the number of seats, by its parts
+-- a rank times the number of seats, by its parts
 times-seats : (h : Home) (inverse turn q : ℕ) → IsTurned h inverse turn
     → q * 2 ^ turn * odd_part h.seats turn ≡ q * h.seats
 times-seats h inverse turn q k =
@@ -61,9 +61,9 @@ abbrev pub distance : Home → ℕ → ℕ
 distance h user = (user + (2 ^ 32 - h.seat)) % 2 ^ 32
 
 -- what is computed for a user of the seat
-pub place-there : (h : Home) (inverse turn user : ℕ) → IsTurned h inverse turn → user < 2 ^ 32 → IsAtHome h user
+pub rank-there : (h : Home) (inverse turn user : ℕ) → IsTurned h inverse turn → user < 2 ^ 32 → IsAtHome h user
     → rotate_right w32 (distance h user * inverse % 2 ^ 32) turn ≡ user / h.seats
-place-there h inverse turn user k fits home =
+rank-there h inverse turn user k fits home =
     let q = user / h.seats in
     let all : q * h.seats + h.seat ≡ user = omega (arith, div-add-mod' user h.seats, home) in
     let times = times-seats h inverse turn q k in
@@ -76,18 +76,18 @@ place-there h inverse turn user k fits home =
     ∙ turned-whole q turn k.few small
 
 -- whatever is computed for a user, if its user is below 2 ^ 32, that is the user
-pub place-back : (h : Home) (inverse turn user place : ℕ) → IsTurned h inverse turn → user < 2 ^ 32
-    → place ≡ rotate_right w32 (distance h user * inverse % 2 ^ 32) turn → user_at h place < 2 ^ 32
-    → user ≡ user_at h place
-place-back h inverse turn user place k fits is small =
+pub rank-back : (h : Home) (inverse turn user rank : ℕ) → IsTurned h inverse turn → user < 2 ^ 32
+    → rank ≡ rotate_right w32 (distance h user * inverse % 2 ^ 32) turn → user_at h rank < 2 ^ 32
+    → user ≡ user_at h rank
+rank-back h inverse turn user rank k fits is small =
     let d = distance h user in
     let below : d < 2 ^ 32 = mod_below (user + (2 ^ 32 - h.seat)) (2 ^ 32) (omega arith) in
-    let le = mul-le place (2 ^ turn) place h.seats (omega arith) (power-le h inverse turn k) in
-    let turned = turned-back (d * inverse % 2 ^ 32) turn place k.few (mod_below (d * inverse) (2 ^ 32) (omega arith)) is
+    let le = mul-le rank (2 ^ turn) rank h.seats (omega arith) (power-le h inverse turn k) in
+    let turned = turned-back (d * inverse % 2 ^ 32) turn rank k.few (mod_below (d * inverse) (2 ^ 32) (omega arith)) is
     (omega (arith, le, small)) in
-    let product = ap (λ m. m * odd_part h.seats turn) turned ∙ times-seats h inverse turn place k in
-    let within : place * h.seats < 2 ^ 32 = omega (arith, small) in
-    let far : d ≡ place * h.seats =
+    let product = ap (λ m. m * odd_part h.seats turn) turned ∙ times-seats h inverse turn rank k in
+    let within : rank * h.seats < 2 ^ 32 = omega (arith, small) in
+    let far : d ≡ rank * h.seats =
     sym (undone-times d (odd_part h.seats turn) inverse (2 ^ 32) k.undoes below) ∙ ap (λ m. m % 2 ^ 32) product
     ∙ mod-eq_of_lt within in
     omega (arith, far, fits, small, k.there, k.fits)

@@ -1,4 +1,4 @@
--- The numbers that a share keeps, read for a user's place.
+-- The numbers that a share keeps, read for a user's rank.
 use Rattle.std.proofs.Common.{◌≡◌, ℕ, ◌+◌, ◌*◌, ◌/◌, ◌%◌, ◌<◌, ◌≤◌, cond, List, [], ◌∷◌, ◌++◌, length, get_or, inl, inr, refl, ap, ◌∙◌, arith, eq-eqb}
 use Rattle.std.proofs.Math.ListN.{get_or-append}
 use Rattle.std.proofs.Math.Seq.{get_or-append_seam}
@@ -49,12 +49,12 @@ pub read-rounds-le : (s : Share) (homes : List ℕ) (user all : ℕ)
 read-rounds-le s homes user all k is =
     rw (read-homes s homes s.submitters all k (omega arith) is) (rounds-le s user k.lawful.submitters)
 
--- with those of the last round they make the user's place
-pub read-place : (s : Share) (homes : List ℕ) (user all some : ℕ)
+-- with those of the last round they make the user's rank
+pub read-rank : (s : Share) (homes : List ℕ) (user all some : ℕ)
     → AreHomesBelow s homes
     → all ≡ get_or homes s.submitters all
     → some ≡ get_or homes (user % s.submitters) some → user / s.submitters * all + some ≡ owned_below s user
-read-place s homes user all some k is_all is_some =
+read-rank s homes user all some k is_all is_some =
     let least = k.lawful.submitters in
     let first = read-homes s homes s.submitters all k (omega arith) is_all in
     let rest = read-homes s homes (user % s.submitters) some k

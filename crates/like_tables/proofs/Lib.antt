@@ -4,11 +4,11 @@ pub mod ByPage
 pub mod Dealt
 pub mod Homes
 pub mod Inverses
-pub mod NextSliced
+pub mod NextLiked
 pub mod Owned
 pub mod PageSets
-pub mod Places
-pub mod Placing
+pub mod Ranking
+pub mod Ranks
 pub mod Rows
 pub mod Sliced
 pub mod Tagged

@@ -15,9 +15,9 @@ home_of seats seat = record { seats = seats; seat = seat }
 abbrev pub IsAtHome : Home → ℕ → Type 0
 IsAtHome h user = user % h.seats ≡ h.seat
 
--- the user at a place of the seat
+-- the user with a rank at the seat
 abbrev pub user_at : Home → ℕ → ℕ
-user_at h place = place * h.seats + h.seat
+user_at h rank = rank * h.seats + h.seat
 
 -- the number of seats without its factors of two; `turn` is how many there are
 abbrev pub odd_part : ℕ → ℕ → ℕ

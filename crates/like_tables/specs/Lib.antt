@@ -4,13 +4,13 @@ pub mod Homes
 pub mod LastLike
 pub mod Liked
 pub mod PageSet
-pub mod Placed
-pub mod Places
+pub mod Ranked
+pub mod Ranks
 pub mod Ring
 pub mod Share
 pub mod Slice
 pub mod SplitPages
 pub mod SplitSlice
+pub mod StashView
 pub mod Tags
 pub mod UserTable
-pub mod Waiting

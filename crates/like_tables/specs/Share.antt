@@ -28,13 +28,13 @@ pub record IsShare (s : Share) : Type 0 where
 abbrev pub worker_of : ℕ → ℕ → ℕ
 worker_of workers submitter = submitter % workers
 
--- the place of a submitter among its worker's
-abbrev pub place_of : ℕ → ℕ → ℕ
-place_of workers submitter = submitter / workers
+-- the rank of a submitter among its worker's
+abbrev pub rank_of : ℕ → ℕ → ℕ
+rank_of workers submitter = submitter / workers
 
--- the submitter at a place of a worker: w, w + N, w + 2 N, .. for worker w of N
+-- the submitter with a rank at a worker: w, w + N, w + 2 N, .. for worker w of N
 abbrev pub submitter_of : ℕ → ℕ → ℕ → ℕ
-submitter_of workers worker place = worker + workers * place
+submitter_of workers worker rank = worker + workers * rank
 
 -- the elements of a list at k, k + n, k + 2 n, ..: what worker k of n gets of a list with one for each submitter
 abbrev pub dealt : {A : Type 0} → ℕ → ℕ → List A → List A

@@ -52,12 +52,12 @@ abbrev pub with_likes : SplitSlice → ℕ → ℕ → SplitSlice
 with_likes s page likes = record s { counts = slice_set s.counts (bucket_in s page) likes }
 
 -- no page with its bucket from `from` on and below `end` has a like
-abbrev pub AreUnsliced : SplitSlice → ℕ → ℕ → Type 0
-AreUnsliced s from end = (page : ℕ) → from ≤ bucket_in s page → bucket_in s page < end → likes_in s page ≡ 0
+abbrev pub HaveNoLikes : SplitSlice → ℕ → ℕ → Type 0
+HaveNoLikes s from end = (page : ℕ) → from ≤ bucket_in s page → bucket_in s page < end → likes_in s page ≡ 0
 
 -- the page is in the first bucket from `from` on whose page has a like
-pub record IsNextSliced (s : SplitSlice) (from page : ℕ) : Type 0 where
+pub record IsNextLiked (s : SplitSlice) (from page : ℕ) : Type 0 where
   pub after : from ≤ bucket_in s page
   pub split : has_split s page ≡ true
   pub liked : likes_in s page ≢ 0
-  pub first : AreUnsliced s from (bucket_in s page)
+  pub first : HaveNoLikes s from (bucket_in s page)

@@ -1,24 +1,18 @@
 ghost use Rattle.std.specs.Prelude.{◌≡◌, ◌↔◌, IfNone, IfSome, IsTrue};
-ghost use Rattle.like_limits.specs.Buckets.{bucket};
 ghost use Rattle.like_tables.specs.Factors.{AreApart, IsFirstApart, NoneParts, max_tries};
+
+use like_limits::bucket;
 
 /// How many buckets a seat's table has.
 pub const BUCKETS: usize = 1024;
 
-// How many factors are tried, the first of them, and how much greater each is than the one before. All are odd.
+// How many factors are tried; the first of them, 2^32 divided by the golden ratio; and how much greater each is than
+// the one before. All are odd.
 const MAX_TRIES: u32 = 1_000;
 
 const FIRST_FACTOR: u32 = 2_654_435_769;
 
 const FACTOR_STEP: u32 = 1_640_534;
-
-/// The bucket of a page, by a factor.
-#[inline(always)]
-pub fn bucket(factor: u32, page: u32) -> u32
-    ensures { result ≡ bucket factor page }
-{
-    page.wrapping_mul(factor) >> 22
-}
 
 /// The first of a thousand odd factors with which no two of these pages share a bucket, if there is one. About one
 /// factor in seven separates 64 pages.

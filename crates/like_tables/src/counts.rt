@@ -1,6 +1,6 @@
 ghost use Rattle.std.specs.Prelude.{◌≡◌, ◌+◌, ◌^◌, ◌<◌, ◌≤◌, List, ℕ, IfNone, IfSome, length, slice_index, slice_set, sum};
 ghost use Rattle.like_limits.specs.Buckets.{buckets};
-ghost use Rattle.like_tables.specs.SplitSlice.{AreUnsliced, IsNextSliced, IsSplitSlice, slice_by};
+ghost use Rattle.like_tables.specs.SplitSlice.{HaveNoLikes, IsNextLiked, IsSplitSlice, slice_by};
 
 use crate::split_pages::SplitPages;
 
@@ -32,6 +32,6 @@ pub trait Counts: Drop {
     fn next_page(&self, splits: &SplitPages, from: u32) -> Option<u32>
         requires slice { IsSplitSlice (slice_by splits.now (view self.now)) }
         requires within { from ≤ buckets }
-        ensures next { IfSome result (IsNextSliced (slice_by splits.now (view self.now)) from) }
-        ensures none { IfNone result (AreUnsliced (slice_by splits.now (view self.now)) from buckets) };
+        ensures next { IfSome result (IsNextLiked (slice_by splits.now (view self.now)) from) }
+        ensures none { IfNone result (HaveNoLikes (slice_by splits.now (view self.now)) from buckets) };
 }

@@ -3,11 +3,11 @@ ghost use Rattle.like_tables.specs.Home.{IsAtHome, home_of, user_at};
 
 use std::marker::Model;
 
-/// Where the users of one seat have their places: `seat`, `seat + seats`, `seat + 2 seats` and so on.
+/// The users of one seat, by rank: `seat`, `seat + seats`, `seat + 2 seats` and so on.
 ///
 /// The number of seats is an odd number times a power of two. So a division by it is a multiplication by the odd
-/// number's inverse modulo 2^32, and a rotation of the bits to the right. What isn't divisible gets a place beyond all
-/// users.
+/// number's inverse modulo 2^32, and a rotation of the bits to the right (Granlund and Montgomery, "Division by
+/// Invariant Integers using Multiplication", 1994, section 9). What isn't divisible gets a rank beyond all users.
 #[derive(Drop)]
 pub struct Home {
     seats: u32,
@@ -43,9 +43,9 @@ impl Home {
         }
     }
 
-    /// The place of a user of the seat. A user of another seat gets a number whose user would be beyond 2^32.
+    /// The rank of a user of the seat. A user of another seat gets a number whose user would be beyond 2^32.
     #[inline(always)]
-    pub fn place(&self, user: u32) -> u32
+    pub fn rank(&self, user: u32) -> u32
         ensures there { IsAtHome self.now user → result ≡ user / self.now.seats }
         ensures back { user_at self.now result < 2 ^ 32 → user ≡ user_at self.now result }
         ensures seat { self.now.seat < self.now.seats }

@@ -1,12 +1,12 @@
 ghost use Rattle.std.specs.Prelude.{◌≡◌, ◌<◌, ◌≤◌, IfOk, length};
 ghost use Rattle.like_tables.specs.Home.{IsHomeOf};
-ghost use Rattle.like_tables.specs.Placed.{placed_in};
-ghost use Rattle.like_tables.specs.Places.{AreTaken, HoldsUsers, IsGiven};
+ghost use Rattle.like_tables.specs.Ranked.{ranked_in};
+ghost use Rattle.like_tables.specs.Ranks.{AreTaken, HoldsUsers, IsGiven};
 ghost use Rattle.like_tables.specs.Share.{owned_below, owns, share_of, submitter_of};
 
 use crate::home::Home;
 use crate::last_like::LastLike;
-use crate::placed::Placed;
+use crate::ranked::Ranked;
 use std::alloc::{AllocError, Global};
 use std::marker::Model;
 
@@ -17,7 +17,7 @@ pub(crate) struct UserShare {
     pub submitters: u32,
     pub workers: u32,
     pub worker: u32,
-    // By submitter, and last of all of them: how many of the submitters below it are the worker's. So the place of a
+    // By submitter, and last of all of them: how many of the submitters below it are the worker's. So the rank of a
     // user costs one division.
     homes_below: Vec<u32>,
 }
@@ -70,12 +70,12 @@ impl UserShare {
         user < self.users && user % self.submitters % self.workers == self.worker
     }
 
-    // The submitter at a place of the worker.
-    pub fn submitter_at(&self, place: usize) -> u32
-        requires { submitter_of self.now.workers self.now.worker place < self.now.submitters }
-        ensures { result ≡ submitter_of self.now.workers self.now.worker place }
+    // The submitter with a rank at the worker.
+    pub fn submitter_at(&self, rank: usize) -> u32
+        requires { submitter_of self.now.workers self.now.worker rank < self.now.submitters }
+        ensures { result ≡ submitter_of self.now.workers self.now.worker rank }
     {
-        self.worker + self.workers * place as u32
+        self.worker + self.workers * rank as u32
     }
 
     // How many of the users below this one have their home with this worker.
@@ -87,26 +87,26 @@ impl UserShare {
         rounds * self.homes_below[self.submitters as usize] + self.homes_below[submitter as usize]
     }
 
-    // The user with its place, if it is one of the worker's `many` users. It costs no division.
+    // The user with its rank, if it is one of the worker's `many` users. It costs no division.
     #[inline(always)]
-    pub fn find(&self, home: &Home, user: u32, many: usize) -> Option<Placed>
+    pub fn find(&self, home: &Home, user: u32, many: usize) -> Option<Ranked>
         requires home { IsHomeOf home.now self.now }
         requires many { many ≡ owned_below self.now self.now.users }
-        ensures { result ≡ placed_in self.now user }
+        ensures { result ≡ ranked_in self.now user }
     {
         // (the proof needs what is true of every share: its users are below 2^32)
         let _ = &self.users;
-        let place = home.place(user);
-        if place as usize >= many {
+        let rank = home.rank(user);
+        if rank as usize >= many {
             return None;
         }
-        Some(Placed { user, place })
+        Some(Ranked { user, rank })
     }
 
-    // Writes the pages at the places of the worker's users to the places of all users. It walks over the users
+    // Writes the last likes of the worker's users, by rank, into a list for all users. It walks over the users
     // submitter by submitter and round by round, so that none costs a division.
     pub fn give(&self, pages: &[LastLike], last: &mut [Option<u32>])
-        requires places { HoldsUsers self.now pages.now }
+        requires ranks { HoldsUsers self.now pages.now }
         requires users { length last.old ≡ self.now.users }
         ensures { IsGiven self.now pages.now last.old last.new (length pages.now) }
     {
@@ -123,17 +123,17 @@ impl UserShare {
         }
     }
 
-    // Writes the last likes of the worker's users to their places, from a list for all users. It walks as `give` does.
+    // Writes the last likes of the worker's users, by rank, from a list for all users. It walks as `give` does.
     pub fn take(&self, lasts: &[u32], pages: &mut [LastLike])
-        requires places { HoldsUsers self.now pages.old }
+        requires ranks { HoldsUsers self.now pages.old }
         requires users { length lasts.now ≡ self.now.users }
         ensures { AreTaken self.now lasts.now pages.new (length pages.new) }
     {
         let (submitters, workers) = (self.submitters as usize, self.workers as usize);
         let first = self.worker as usize;
         let (mut round, mut submitter) = (0, first);
-        for place in 0..pages.len() {
-            pages[place] = LastLike::numbered(lasts[round + submitter]);
+        for rank in 0..pages.len() {
+            pages[rank] = LastLike::numbered(lasts[round + submitter]);
             submitter += workers;
             if submitter >= submitters {
                 round += submitters;

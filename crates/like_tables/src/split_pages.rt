@@ -3,8 +3,9 @@ ghost use Rattle.like_limits.specs.Buckets.{bucket, buckets};
 ghost use Rattle.like_tables.specs.SplitPages.{AreSplitPages, HoldNone, IsNextSplit, MayPut, is_split, none_split, page_in, with_page};
 ghost use Rattle.like_tables.specs.Tags.{empty_tag};
 
-use crate::buckets::{BUCKETS, bucket};
+use crate::buckets::BUCKETS;
 use crate::page_set::PageSet;
+use like_limits::bucket;
 use std::alloc::{AllocError, Global};
 use std::marker::Model;
 

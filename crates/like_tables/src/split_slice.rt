@@ -1,7 +1,7 @@
 ghost use Rattle.std.specs.Prelude.{◌≡◌, ◌+◌, ◌^◌, ◌<◌, ◌≤◌, ℕ, true, IfNone, IfOk, IfSome, length, sum};
 ghost use Rattle.like_limits.specs.Buckets.{buckets, run_factor};
 ghost use Rattle.like_tables.specs.SplitPages.{MayPut};
-ghost use Rattle.like_tables.specs.SplitSlice.{AreUnsliced, IsNextSliced, IsSplitSlice, bucket_in, has_split, likes_in, no_slice, with_likes, with_split};
+ghost use Rattle.like_tables.specs.SplitSlice.{HaveNoLikes, IsNextLiked, IsSplitSlice, bucket_in, has_split, likes_in, no_slice, with_likes, with_split};
 
 use crate::bucket_counts::BucketCounts;
 use crate::counts::Counts;
@@ -124,8 +124,8 @@ impl<C: Counts> SplitSlice<C> {
     /// The page in the first bucket from `from` on whose page has a like.
     pub fn next(&self, from: u32) -> Option<u32>
         requires { from ≤ buckets }
-        ensures next { IfSome result (IsNextSliced self.now from) }
-        ensures none { IfNone result (AreUnsliced self.now from buckets) }
+        ensures next { IfSome result (IsNextLiked self.now from) }
+        ensures none { IfNone result (HaveNoLikes self.now from buckets) }
     {
         self.counts.next_page(&self.splits, from)
     }

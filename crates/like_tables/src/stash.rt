@@ -1,6 +1,6 @@
 ghost use Rattle.std.specs.Prelude.{◌≡◌, ◌<◌, ◌≤◌, ◌↔◌, [], ◌∷◌, ◌++◌, IfOk, IsTrue, drop, length, slice_get};
 ghost use Rattle.like_limits.specs.Limits.{max_stash};
-ghost use Rattle.like_tables.specs.Waiting.{IsWaiting};
+ghost use Rattle.like_tables.specs.StashView.{IsStash};
 
 use circular_buffer::HeapCircularBuffer;
 use std::alloc::{AllocError, Global};
@@ -13,14 +13,14 @@ pub struct Stash<W: Copy> {
 }
 
 impl<W: Copy> Model for Stash<W> {
-    ghost use Rattle.like_tables.specs.Ring.{waiting_in};
-    ghost use Rattle.like_tables.specs.Waiting.{IsWaiting, Waiting};
+    ghost use Rattle.like_tables.specs.Ring.{stash_in};
+    ghost use Rattle.like_tables.specs.StashView.{IsStash, StashView};
 
-    ghost Value = { Waiting W };
+    ghost Value = { StashView W };
 
-    ghost view = { λ s. waiting_in s.ring };
+    ghost view = { λ s. stash_in s.ring };
 
-    ghost invariant = { λ s. IsWaiting (waiting_in s.ring) };
+    ghost invariant = { λ s. IsStash (stash_in s.ring) };
 }
 
 impl<W: Copy> Stash<W> {
@@ -28,7 +28,7 @@ impl<W: Copy> Stash<W> {
     pub fn new(alloc: Global, capacity: u32) -> Result<Self, AllocError>
         requires some { 1 ≤ capacity }
         requires few { capacity ≤ max_stash }
-        ensures { IfOk result (λ stash. stash ≡ record { held = []; capacity = capacity }) }
+        ensures { IfOk result (λ stash. stash ≡ record { looks = []; capacity = capacity }) }
     {
         Ok(Stash {
             ring: HeapCircularBuffer::with_capacity(alloc, capacity as usize)?,
@@ -36,26 +36,26 @@ impl<W: Copy> Stash<W> {
     }
 
     /// Adds one behind all others.
-    pub fn push(&mut self, held: W)
-        requires { length self.old.held < self.old.capacity }
-        ensures { self.new ≡ record self.old { held = self.old.held ++ held ∷ [] } }
+    pub fn push(&mut self, look: W)
+        requires { length self.old.looks < self.old.capacity }
+        ensures { self.new ≡ record self.old { looks = self.old.looks ++ look ∷ [] } }
     {
-        let _ = self.ring.try_push_back(held);
+        let _ = self.ring.try_push_back(look);
     }
 
     /// Takes out the first, if it holds one.
     #[inline(always)]
     pub fn pop_front(&mut self) -> Option<W>
-        ensures first { result ≡ slice_get self.old.held 0 }
-        ensures rest { self.new ≡ record self.old { held = drop 1 self.old.held } }
+        ensures first { result ≡ slice_get self.old.looks 0 }
+        ensures rest { self.new ≡ record self.old { looks = drop 1 self.old.looks } }
     {
         self.ring.pop_front()
     }
 
     /// Whether it holds as many as it has room for.
     pub fn is_full(&self) -> bool
-        ensures full { IsTrue result ↔ (length self.now.held ≡ self.now.capacity) }
-        ensures within { IsWaiting self.now }
+        ensures full { IsTrue result ↔ (length self.now.looks ≡ self.now.capacity) }
+        ensures within { IsStash self.now }
     {
         self.ring.is_full()
     }
@@ -63,15 +63,15 @@ impl<W: Copy> Stash<W> {
     /// Whether it holds none.
     #[inline(always)]
     pub fn is_empty(&self) -> bool
-        ensures { IsTrue result ↔ (length self.now.held ≡ 0) }
+        ensures { IsTrue result ↔ (length self.now.looks ≡ 0) }
     {
         self.ring.is_empty()
     }
 
     /// How many it holds.
     pub fn len(&self) -> u32
-        ensures len { result ≡ length self.now.held }
-        ensures within { IsWaiting self.now }
+        ensures len { result ≡ length self.now.looks }
+        ensures within { IsStash self.now }
     {
         self.ring.len() as u32
     }

@@ -2,14 +2,14 @@ ghost use Rattle.std.specs.Prelude.{◌≡◌, ◌≢◌, ◌+◌, ◌<◌, ◌�
 ghost use Rattle.like_requests.specs.Verdict.{is_known, verdict_of};
 ghost use Rattle.like_tables.specs.Home.{IsHomeOf};
 ghost use Rattle.like_tables.specs.LastLike.{no_page};
-ghost use Rattle.like_tables.specs.Placed.{IsPlaced, placed_at, placed_in};
+ghost use Rattle.like_tables.specs.Ranked.{IsRanked, ranked_at, ranked_in};
 ghost use Rattle.like_tables.specs.Share.{owns, share_of, submitter_of};
-ghost use Rattle.like_tables.specs.Places.{AreLastsFrom};
+ghost use Rattle.like_tables.specs.Ranks.{AreLastsFrom};
 ghost use Rattle.like_tables.specs.UserTable.{IsForUsers, IsUserTable, last_of, table_with_lasts, table_without_likes, with_last};
 
 use crate::home::Home;
 use crate::last_like::LastLike;
-use crate::placed::Placed;
+use crate::ranked::Ranked;
 use crate::share::UserShare;
 use like_requests::{Request, Verdict, judge, judge_user};
 use std::alloc::{AllocError, Global};
@@ -26,7 +26,7 @@ pub struct Users {
 }
 
 impl Model for Users {
-    ghost use Rattle.like_tables.specs.Places.{HoldsUsers, table_of};
+    ghost use Rattle.like_tables.specs.Ranks.{HoldsUsers, table_of};
     ghost use Rattle.like_tables.specs.UserTable.{UserTable};
 
     ghost Value = { UserTable };
@@ -37,7 +37,7 @@ impl Model for Users {
 }
 
 impl Users {
-    /// The table of worker `worker`, in which no user has liked a page. Its memory, a place for each user that this
+    /// The table of worker `worker`, in which no user has liked a page. Its memory, an entry for each user that this
     /// worker serves, is taken here.
     pub fn new(
         alloc: Global,
@@ -52,10 +52,10 @@ impl Users {
             ≡ table_without_likes (share_of users submitters workers worker)) }
     {
         let share = UserShare::new(alloc, users, submitters, workers, worker)?;
-        let places = share.owned_below(users) as usize;
+        let ranks = share.owned_below(users) as usize;
         Ok(Users {
             share,
-            pages: vec![in alloc; LastLike::none(); places]?,
+            pages: vec![in alloc; LastLike::none(); ranks]?,
         })
     }
 
@@ -98,13 +98,13 @@ impl Users {
         self.share.worker
     }
 
-    /// The submitter at a place of the worker.
-    pub fn submitter_at(&self, place: usize) -> u32
-        requires { submitter_of self.now.share.workers self.now.share.worker place
+    /// The submitter with a rank at the worker.
+    pub fn submitter_at(&self, rank: usize) -> u32
+        requires { submitter_of self.now.share.workers self.now.share.worker rank
             < self.now.share.submitters }
-        ensures { result ≡ submitter_of self.now.share.workers self.now.share.worker place }
+        ensures { result ≡ submitter_of self.now.share.workers self.now.share.worker rank }
     {
-        self.share.submitter_at(place)
+        self.share.submitter_at(rank)
     }
 
     /// Judges a user who asks `submitter`.
@@ -125,7 +125,7 @@ impl Users {
         judge(request, submitter, self.share.submitters, self.share.users)
     }
 
-    /// Where its users have their places, if each worker serves the submitter with its number.
+    /// Which users have which rank, if each worker serves the submitter with its number.
     pub fn home(&self) -> Home
         requires alone { self.now.share.submitters ≡ self.now.share.workers }
         requires there { self.now.share.worker < self.now.share.workers }
@@ -134,23 +134,23 @@ impl Users {
         Home::new(self.share.submitters, self.share.worker)
     }
 
-    /// The user with its place.
+    /// The user with its rank.
     #[inline(always)]
-    pub fn placed(&self, user: u32) -> Placed
+    pub fn ranked(&self, user: u32) -> Ranked
         requires { IsTrue (owns self.now.share user) }
-        ensures { result ≡ placed_at self.now.share user }
+        ensures { result ≡ ranked_at self.now.share user }
     {
-        Placed {
+        Ranked {
             user,
-            place: self.share.owned_below(user),
+            rank: self.share.owned_below(user),
         }
     }
 
-    /// The user with its place, if the worker serves it. With the home of the worker's users this costs no division.
+    /// The user with its rank, if the worker serves it. With the home of the worker's users this costs no division.
     #[inline(always)]
-    pub fn find(&self, home: &Home, user: u32) -> Option<Placed>
+    pub fn find(&self, home: &Home, user: u32) -> Option<Ranked>
         requires { IsHomeOf home.now self.now.share }
-        ensures { result ≡ placed_in self.now.share user }
+        ensures { result ≡ ranked_in self.now.share user }
     {
         self.share.find(home, user, self.pages.len())
     }
@@ -161,16 +161,16 @@ impl Users {
         requires { IsTrue (owns self.now.share user) }
         ensures { result ≡ last_of self.now user }
     {
-        self.last_at(self.placed(user))
+        self.last_at(self.ranked(user))
     }
 
-    /// The page of the last like, if any, of a user whose place is known.
+    /// The page of the last like, if any, of a user whose rank is known.
     #[inline(always)]
-    pub fn last_at(&self, placed: Placed) -> Option<u32>
-        requires { IsPlaced self.now.share placed }
-        ensures { result ≡ last_of self.now placed.user }
+    pub fn last_at(&self, ranked: Ranked) -> Option<u32>
+        requires { IsRanked self.now.share ranked }
+        ensures { result ≡ last_of self.now ranked.user }
     {
-        self.pages[placed.place as usize].page()
+        self.pages[ranked.rank as usize].page()
     }
 
     /// Notes that the user's last like is of this page.
@@ -183,51 +183,51 @@ impl Users {
         ensures others { (other : ℕ) → other ≢ user
             → last_of self.new other ≡ last_of self.old other }
     {
-        let placed = self.placed(user);
-        self.set_at(placed, page);
+        let ranked = self.ranked(user);
+        self.set_at(ranked, page);
     }
 
-    /// Notes that the last like of a user whose place is known is of this page.
+    /// Notes that the last like of a user whose rank is known is of this page.
     #[inline(always)]
-    pub fn set_at(&mut self, placed: Placed, page: u32)
-        requires placed { IsPlaced self.old.share placed }
+    pub fn set_at(&mut self, ranked: Ranked, page: u32)
+        requires ranked { IsRanked self.old.share ranked }
         requires page { page < no_page }
-        ensures table { self.new ≡ with_last self.old placed.user page }
-        ensures user { last_of self.new placed.user ≡ Some page }
-        ensures others { (other : ℕ) → other ≢ placed.user
+        ensures table { self.new ≡ with_last self.old ranked.user page }
+        ensures user { last_of self.new ranked.user ≡ Some page }
+        ensures others { (other : ℕ) → other ≢ ranked.user
             → last_of self.new other ≡ last_of self.old other }
     {
-        self.pages[placed.place as usize] = LastLike::of(page);
+        self.pages[ranked.rank as usize] = LastLike::of(page);
     }
 
-    /// Where the last likes lie in memory, four bytes for each place, so that a host can have the processor fetch them
+    /// Where the last likes lie in memory, four bytes for each rank, so that a host can have the processor fetch them
     /// early. No contract says where.
     pub fn address(&self) -> *const u8 {
         self.pages.as_ptr() as *const u8
     }
 
-    /// Whether the worker serves `many` users from place `from` on. Its users are in the order of their numbers.
-    pub fn has_places(&self, from: u32, many: usize) -> bool
-        ensures places { IsTrue result ↔ (from + many ≤ self.now.room) }
+    /// Whether the worker serves `many` users from rank `from` on. Its users are in the order of their numbers.
+    pub fn has_ranks(&self, from: u32, many: usize) -> bool
+        ensures ranks { IsTrue result ↔ (from + many ≤ self.now.room) }
         ensures table { IsUserTable self.now }
     {
-        let places = self.pages.len();
-        from as usize <= places && many <= places - from as usize
+        let ranks = self.pages.len();
+        from as usize <= ranks && many <= ranks - from as usize
     }
 
-    /// Writes the last likes of the worker's users from place `from` on: each one's page, or `NO_PAGE`.
+    /// Writes the last likes of the worker's users from rank `from` on: each one's page, or `NO_PAGE`.
     pub fn write_lasts(&self, from: u32, row: &mut [u32])
         requires { from + length row.old ≤ self.now.room }
         ensures len { length row.new ≡ length row.old }
         ensures lasts { AreLastsFrom self.now from row.new }
         ensures table { IsUserTable self.now }
     {
-        for place in 0..row.len() {
-            row[place] = self.pages[from as usize + place].number();
+        for rank in 0..row.len() {
+            row[rank] = self.pages[from as usize + rank].number();
         }
     }
 
-    /// Writes the last like of each user of the worker to the user's place, and nothing to the places of others.
+    /// Writes the last like of each user of the worker into a list for all users, and nothing for others.
     pub fn give_to(&self, last: &mut [Option<u32>])
         requires { length last.old ≡ self.now.share.users }
         ensures len { length last.new ≡ length last.old }

@@ -243,7 +243,7 @@ fn assert_both_ways(rt: &impl Abort, alloc: Global, kind: Kind, file: &[u8]) {
     assert_text(rt, bytewise, &answer(rt, alloc, kind, file));
 }
 
-// The same of a file with the byte at a place replaced by each one in turn.
+// Stops the test unless a file, with one byte replaced by each one in turn, is read the same at once and byte by byte.
 fn assert_replaced(rt: &impl Abort, alloc: Global, kind: Kind, file: &[u8], place: usize) {
     let mut replaced = list(rt, alloc, file);
     for byte in 0..=255 {

@@ -291,7 +291,7 @@ static SCENES: [Scene; 13] = [
         ],
         ..PLAIN
     },
-    // So do looks: 16,000 of them count for little after 60 choices.
+    // Looks fade: 16,000 of them count for little after 60 choices.
     Scene {
         name: "looks_fade",
         parts: &[
@@ -350,7 +350,7 @@ fn asks(
     }
 }
 
-// The same request of a user, so many times. Each user has a seat for itself.
+// Makes a user's request so many times. Each user has a seat for itself.
 fn repeats(
     rt: &impl Abort,
     name: &str,

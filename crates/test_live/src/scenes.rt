@@ -244,7 +244,7 @@ const CHANGE: &[Step] = &[
     drive!(IfItServes, Released),
 ];
 
-// The same where seat 0 is gone.
+// The end of a phase that only seat 1 answers, since seat 0 is gone, and the release of the next.
 const CHANGE_BY_SEAT_1: &[Step] = &[
     drive!(IfItServes, Announced),
     turn!(1, Between),

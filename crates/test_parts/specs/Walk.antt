@@ -7,7 +7,7 @@ use Rattle.like_core.specs.declared.view.CoordSeatView.{CoordSeatView}
 use Rattle.like_core.specs.Additions.{added_to, all_added}
 use Rattle.like_core.specs.Phase.{is_hot, is_marked}
 use Rattle.like_core.specs.PhaseMasks.{mask_of, HasMask}
-use Rattle.like_core.specs.Post.{KnowsSlices, pages_of, slices}
+use Rattle.like_core.specs.Post.{KnowsSplit, is_split_at, pages_of}
 use Rattle.like_core.specs.WorkerState.{IsRunning}
 use Rattle.like_core.specs.PageSteps.{additions_among}
 use Rattle.like_board.specs.declared.coord_seat.CoordSeat.{CoordSeat}
@@ -55,11 +55,11 @@ pub record KeepsPlace (was : List ℕ) (old : WorkerSeatView) (is : List ℕ) (n
   pub worker : new.worker ≡ old.worker
 
 -- the post runs a phase in which page 0 is sliced, and knows it
-pub record SlicesFirst (v : WorkerSeatView) : Type 0 where
+pub record SplitsFirst (v : WorkerSeatView) : Type 0 where
   pub there : 0 < pages_of v
   pub runs : IsRunning v.state
-  pub known : KnowsSlices v 0
-  pub sliced : slices v 0 ≡ true
+  pub known : KnowsSplit v 0
+  pub split : is_split_at v 0 ≡ true
 
 -- the numbers of a seat's board
 abbrev pub seat_numbers : WorkerSeat → List ℕ

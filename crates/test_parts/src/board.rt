@@ -183,7 +183,7 @@ fn end_of_two(
     Ok((counts[0], likes))
 }
 
-// The same of one seat.
+// One seat is given back. What the page has at the end is its count at the start and the likes of its worker.
 fn end_of_one(alloc: Global, board: Board, coord: CoordSeat, first: Left) -> Result<End, AllocError>
     requires coord { IsCoordOf (board_id board) 1 coord }
     requires first { IsWorkerAt (coord_board coord) 0 (seat_numbers first.seat) (seat_view first.seat) }

@@ -263,7 +263,7 @@ fn finds_one_of_three(users: &Users) -> bool
     requires { users.now.share ≡ share_of 23 6 6 4 }
 {
     let home = users.home();
-    matches!(users.find(&home, 16), Some(placed) if placed.user == 16 && placed.place == 2)
+    matches!(users.find(&home, 16), Some(ranked) if ranked.user == 16 && ranked.rank == 2)
         && users.find(&home, 15).is_none()
         && users.find(&home, 28).is_none()
 }

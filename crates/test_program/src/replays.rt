@@ -276,7 +276,7 @@ fn assert_report(rt: &impl Abort, alloc: Global, case: &Case<'_>) {
     assert_that(rt, is_report(&out, case.end), case.name);
 }
 
-// The same, and that files that are cut short do no harm.
+// Asserts that a case ends in its report, and that files that are cut short do no harm.
 fn assert_example(rt: &impl Abort, alloc: Global, case: &Case<'_>) {
     assert_report(rt, alloc, case);
     assert_prefixes(rt, alloc, case, File::Pages, case.pages.len());

@@ -143,7 +143,7 @@ const OF_ONE: &[Example] = &[
     },
 ];
 
-// The same, with looks that wait.
+// Of one worker, and no hot pages. Looks wait.
 const OF_STASHES: &[Example] = &[
     Example {
         name: "split-and-stash",

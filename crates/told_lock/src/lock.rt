@@ -103,7 +103,7 @@ impl<T, C, D: Deeds<T, C>> Lock<T, C, D> {
         self.give_back_as::<Brand>(pass, deed);
     }
 
-    // The same: the proof of a call picks the deed as that of `J`.
+    // Gives the lock back: the proof of a call picks the deed as that of `J`.
     #[inline(always)]
     fn give_back_as<J: Done<C>>(&self, pass: &mut Pass<T, C>, _deed: &C)
         requires deed { J.done ≡ _deed.now ∷ [] }
@@ -139,7 +139,7 @@ impl<T, C, D: Deeds<T, C>> Lock<T, C, D> {
         self.note_as::<Brand>(pass, deed);
     }
 
-    // The same: the proof of a call picks the deed as that of `J`.
+    // Tells one deed: the proof of a call picks it as that of `J`.
     #[inline(always)]
     fn note_as<J: Done<C>>(&self, pass: &mut Pass<T, C>, _deed: &C)
         requires deed { J.done ≡ _deed.now ∷ [] }

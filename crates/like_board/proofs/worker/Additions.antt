@@ -22,7 +22,7 @@ use Rattle.like_core.specs.core.Table.{IsShown}
 use Rattle.like_core.specs.core.State.{CoreState, Label, is_split_now, after, numbers}
 use Rattle.like_core.specs.core.Moves.{Reached, makes}
 use Rattle.like_core.specs.WorkerState.{IsIn, phase_of}
-use Rattle.like_core.specs.Post.{MayAdd, slices, added}
+use Rattle.like_core.specs.Post.{MayAdd, is_split_at, added}
 use Rattle.like_core.specs.Additions.{added_to}
 use Rattle.like_core.specs.PageSteps.{additions_among, page_step}
 use Rattle.like_core.specs.views.Views.{likes_merged, adding}
@@ -43,7 +43,7 @@ use Rattle.like_core.proofs.views.KeptCounts.{addition_before, counted_on}
 use Rattle.like_core.proofs.views.ViewLists.{sum_part, sum_set, sum_swap}
 use Rattle.like_board.proofs.worker.Moves.{moment_of, one_seat}
 use Rattle.like_board.proofs.worker.WorkerSteps.{running_is}
-use Rattle.like_board.proofs.worker.Pages.{slices_are, page_steps}
+use Rattle.like_board.proofs.worker.Pages.{split_alike, page_steps}
 
 -- what stands of likes that worker i applied to a page in phase k
 abbrev pub applied_by : CoreState → ℕ → ℕ → ℕ → ℕ → List Label
@@ -157,9 +157,9 @@ count_low counts page on low = All-get_or (λ (n : ℕ). n ≤ max_count) counts
 
 -- something is added
 some_likes : (v : WorkerSeatView) (page n : ℕ) → MayAdd v page n → 1 ≤ n
-some_likes v page n may = by_test (slices v page) refl
+some_likes v page n may = by_test (is_split_at v page) refl
   where
-    by_test : (b : Bool) → slices v page ≡ b → 1 ≤ n
+    by_test : (b : Bool) → is_split_at v page ≡ b → 1 ≤ n
     by_test true sliced = (may.merge sliced).0
     by_test false plain = let one = may.like plain in omega arith
 
@@ -203,10 +203,10 @@ adds z words views place v page n some_state at may =
     let part = sum_part (paged page) views place (Worker v) at in
     let found : get_or words (word_of page) 0 ≡ get_or z.counts page 0 + length (s.applied page) =
     sh.board.pages page on in
-    let same : is_split_now z s page ≡ slices v page =
-    slices_are z s v page old present may.known in
+    let same : is_split_now z s page ≡ is_split_at v page =
+    split_alike z s v page old present may.known in
     let a : Adding z s i page n (likes_merged v page n) (adding v page) =
-    adds_either z s i page n (slices v page) same may.like
+    adds_either z s i page n (is_split_at v page) same may.like
     (λ sliced. old.ending may.runs (may.merge sliced).1)
     sh.merged old.there on (here ∙ ap Runs now) (omega arith)
     in

@@ -13,7 +13,7 @@ use Rattle.like_core.specs.declared.view.View.TheVariants.{Coord, Worker, Spent}
 use Rattle.like_core.specs.core.Numbers.{CoordSees}
 use Rattle.like_core.specs.Phase.{is_marked, split_by}
 use Rattle.like_core.specs.WorkerState.{phase_of}
-use Rattle.like_core.specs.Post.{slices, KnowsSlices}
+use Rattle.like_core.specs.Post.{is_split_at, KnowsSplit}
 use Rattle.like_core.specs.core.State.{CoreState, Label, is_split_now, numbers}
 use Rattle.like_core.specs.word.ShownWord.{shown_word}
 use Rattle.like_core.specs.views.Reads.{IsCounted}
@@ -25,12 +25,12 @@ use Rattle.like_core.proofs.views.Apart.{word_of-past, word_of-order, word_of-in
 use Rattle.like_board.proofs.worker.Moves.{if_some, keeps_elsewhere, worker_steps}
 
 -- what the post knows of slices is what is split in the state
-pub slices_are : (z : Opening) (s : CoreState) (v : WorkerSeatView) (page : ℕ)
+pub split_alike : (z : Opening) (s : CoreState) (v : WorkerSeatView) (page : ℕ)
     → FitsWorker z s v
     → phase_of v.state ≡ s.phase
-    → KnowsSlices v page
-    → is_split_now z s page ≡ slices v page
-slices_are z s v page f present knows =
+    → KnowsSplit v page
+    → is_split_now z s page ≡ is_split_at v page
+split_alike z s v page f present knows =
     sym (λ m. split_by (f.opening m).limits.hot (is_marked (f.opening m).marks) s.hot (present m) page) ∙
     split-known v.opening.limits.hot (is_marked v.opening.marks) s.hot v.masks (phase_of v.state) page
     (λ i d inside. (f.masks i d inside).1) knows

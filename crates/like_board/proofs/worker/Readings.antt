@@ -25,7 +25,7 @@ use Rattle.like_core.specs.core.Table.{Permits}
 use Rattle.like_core.specs.core.Moves.{IsShownBy, MayMove, Move, after_move, glances as glances_at, makes}
 use Rattle.like_core.specs.core.State.{CoreState, is_split_now, numbers}
 use Rattle.like_core.specs.WorkerState.{phase_of, IsRunning, RunsSplit}
-use Rattle.like_core.specs.Post.{MayRead, MayGlance, KnowsSlices, slices, has_read, has_glanced, with_mask, with_slot, slots_read, MayReadSlot}
+use Rattle.like_core.specs.Post.{MayRead, MayGlance, KnowsSplit, is_split_at, has_read, has_glanced, with_mask, with_slot, slots_read, MayReadSlot}
 use Rattle.like_core.specs.OpeningLimits.{has_slots}
 use Rattle.like_core.specs.Slots.{IsChoice}
 use Rattle.like_core.specs.Additions.{added_before, added_to}
@@ -43,7 +43,7 @@ use Rattle.like_core.proofs.views.ViewLists.{sum_part}
 use Rattle.like_board.proofs.worker.Additions.{count_low}
 use Rattle.like_board.proofs.worker.Moves.{moment_of, one_seat, worker_steps}
 use Rattle.like_board.proofs.worker.WorkerSteps.{running_is}
-use Rattle.like_board.proofs.worker.Pages.{slices_are, page_steps}
+use Rattle.like_board.proofs.worker.Pages.{split_alike, page_steps}
 use Rattle.like_board.proofs.Tallying.{tallied_on}
 
 -- the first elements of a list that is the beginning of another
@@ -72,12 +72,12 @@ reads_word : (z : Opening) (words : List ℕ) (views : List View) (place : ℕ) 
     → get_elem? views place ≡ some (Worker v)
     → IsRunning v.state
     → page < length v.opening.marks
-    → KnowsSlices v page
+    → KnowsSplit v page
     → after_move z some_state.state move ≡ some_state.state
     → IsShownBy z some_state.state move
     (Count (slice_index z.counts page + length (some_state.state.applied page)))
     → (some_state.state.state v.worker ≡ Runs some_state.state.phase → v.worker < z.workers → page < length z.counts
-    → is_split_now z some_state.state page ≡ slices v page
+    → is_split_now z some_state.state page ≡ is_split_at v page
     → MayMove z some_state.state move)
     → additions_among ds ≡ additions_among v.did
     → (ComesNext z some_state.state views place v page (get_or words (word_of page) 0)
@@ -99,8 +99,8 @@ reads_word z words views place v page move call ds logged some_state at running 
     ap (λ (y : Opening). length y.marks) old.opening ∙ sh.opening.marks
     in
     let on : page < length z.counts = omega arith in
-    let same : is_split_now z s page ≡ slices v page =
-    slices_are z s v page old present knows in
+    let same : is_split_now z s page ≡ is_split_at v page =
+    split_alike z s v page old present knows in
     let sums = applied_now z (moment_of z words views some_state) page in
     let posts = added_posts page views in
     let part = sum_part (paged page) views place (Worker v) at in
@@ -199,7 +199,7 @@ glances z words views place v page may some_state at =
     reads_word z words views place v page
     (glances_at v.worker page) GlanceCall w.did w.logged some_state at may.runs may.there may.known refl refl
     (λ runs there on
-    same. record { there = there; known = on; runs = runs; sliced = same ∙ may.sliced })
+    same. record { there = there; known = on; runs = runs; split = same ∙ may.split })
     refl
     (λ next. page_step_keeps_order z some_state.state some_state.state views some_state.log place v page count GlanceCall
     next tt (applies_none v.worker page some_state.state))

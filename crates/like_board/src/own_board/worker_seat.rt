@@ -118,7 +118,7 @@ impl OwnWorkerSeat {
         board.table.fetch_add::<Adding>(&mut self.access, word, n)
     }
 
-    /// The count of a page that is not sliced, which has all that was added by then.
+    /// The count of a page that is not split, which has all that was added by then.
     #[inline(always)]
     pub fn read(&mut self, board: &mut OwnBoard, page: u32) -> u64
         requires here { Knows board.old (own_place self.old) (Worker (own_view self.old)) }

@@ -5,13 +5,7 @@ ghost use Rattle.like_core.specs.Functions.{has_bit};
 ghost use Rattle.like_choice.specs.Slots.{IsTaken};
 
 use crate::bits::is_set;
-
-// The bucket of a page, a number below 1,024.
-pub(crate) fn bucket_of(factor: u32, page: u32) -> u32
-    ensures { result ≡ bucket factor page }
-{
-    page.wrapping_mul(factor) >> 22
-}
+use like_limits::bucket;
 
 // Whether the page of a slot in use has the same bucket.
 pub(crate) fn is_taken(slots: &[u32], bits: u64, factor: u32, page: u32) -> bool
@@ -19,7 +13,7 @@ pub(crate) fn is_taken(slots: &[u32], bits: u64, factor: u32, page: u32) -> bool
     ensures { MatchBool result (IsTaken factor slots.now bits page)
         (¬ (IsTaken factor slots.now bits page)) }
 {
-    let bucket = bucket_of(factor, page);
+    let bucket = bucket(factor, page);
     for slot in 0..64u32 {
         if has_bucket(slots, bits, factor, slot, bucket) {
             return true;
@@ -36,5 +30,5 @@ fn has_bucket(slots: &[u32], bits: u64, factor: u32, slot: u32, wanted: u32) -> 
         (bucket factor (slice_index slots.now slot) == wanted)) }
 {
     let page = slots[slot as usize];
-    is_set(bits, slot) && bucket_of(factor, page) == wanted
+    is_set(bits, slot) && bucket(factor, page) == wanted
 }

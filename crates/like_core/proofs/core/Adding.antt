@@ -39,7 +39,7 @@ without-replicate : (page n : ℕ) → without page (replicate n page) ≡ []
 without-replicate page zero = refl
 without-replicate page (suc n) = rw (eq-eqb page page refl) (without-replicate page n)
 
--- so many likes of a sliced page are permitted one after the other, and give their worker so many
+-- so many likes of a split page are permitted one after the other, and give their worker so many
 likes_of : (z : Opening) (s : CoreState) (i page n : ℕ)
     → i < z.workers
     → page < length z.counts
@@ -77,7 +77,7 @@ pub record Adding (z : Opening) (s : CoreState) (i page n : ℕ) (events : List 
   pub merged : (j : ℕ) → rest j ≡ []
   pub leads : after z (fold (after z) s events) event ≡ with_applied s rest page (replicate n (label i s.phase))
 
--- a like of a page that is not sliced
+-- a like of a page that is not split
 adds_plain : (z : Opening) (s : CoreState) (i page : ℕ)
     → ((j : ℕ) → s.unmerged j ≡ [])
     → i < z.workers
@@ -98,7 +98,7 @@ adds_plain z s i page merged there on runs plain small =
       leads = cond-false (is_split_now z s page) _ _ plain;
     }
 
--- likes of a sliced page and their merge
+-- likes of a split page and their merge
 adds_sliced : (z : Opening) (s : CoreState) (i page n : ℕ)
     → ((j : ℕ) → s.unmerged j ≡ [])
     → i < z.workers
@@ -143,7 +143,7 @@ adds_sliced z s i page n merged there on runs sliced ending small =
       leads = then_merges.2;
     }
 
--- an addition is the like where the page is not sliced, and else the likes and their merge
+-- an addition is the like where the page is not split, and else the likes and their merge
 pub adds_either : (z : Opening) (s : CoreState) (i page n : ℕ) (sliced : Bool)
     → is_split_now z s page ≡ sliced
     → (sliced ≡ false → n ≡ 1)

@@ -14,7 +14,7 @@ use Rattle.like_core.specs.WorkerState.{IsRunning, phase_of}
 use Rattle.like_core.specs.core.State.{CoreState, is_split_now}
 use Rattle.like_core.specs.views.Layout.{mask_place, slot_in}
 use Rattle.like_core.specs.views.Shows.{FitsWorker, Moment}
-use Rattle.like_core.specs.views.SplitPages.{SlicesAreSplit, SlotsAreExact}
+use Rattle.like_core.specs.views.SplitPages.{SlotsAreExact, SplitPagesAgree}
 use Rattle.like_core.proofs.PhaseMasks.{split-known}
 use Rattle.like_core.proofs.Slots.{mask_by-slots, slots_tell}
 use Rattle.like_core.proofs.core.Moved.{moved_in_phase}
@@ -62,8 +62,8 @@ runs_present z m v (Runs j) is f running = (moved_in_phase z m.shown.state m.sho
 runs_present z m v (Answered j) is f running = absurd running
 runs_present z m v Gone is f running = absurd running
 
-pub slices_are_split : SlicesAreSplit
-slices_are_split z m place v page here running knows =
+pub split_pages_agree : SplitPagesAgree
+split_pages_agree z m place v page here running knows =
     let f : FitsWorker z m.shown.state v = m.shown.shows.seats.each place (Worker v) here in
     let present = runs_present z m v v.state refl f running in
     sym (split-known v.opening.limits.hot (is_marked v.opening.marks) m.shown.state.hot v.masks (phase_of v.state) page

@@ -1,5 +1,5 @@
 -- The moves of a board: the events, and what only a service's workers do: one that was gone comes back, and one glances
--- at the count of a page that is sliced. These are no events.
+-- at the count of a page that is split. These are no events.
 use Rattle.std.specs.Prelude.{◌≡◌, ◌≢◌, ℕ, ◌<◌, true, false, List, [], ◌∷◌, fold, length}
 use Rattle.like_core.specs.declared.worker_state.WorkerState.TheVariants.{Runs, Gone}
 use Rattle.like_core.specs.declared.event.Event.{Event}
@@ -41,12 +41,12 @@ pub record MayReturn (z : Opening) (s : CoreState) (i : ℕ) : Type 0 where
 abbrev pub NoneReturns : Opening → CoreState → Type 0
 NoneReturns z s = LetsReturn z.limits → s.ending ≡ true
 
--- worker i may glance at the page: it runs the present phase, and the page is sliced in it
+-- worker i may glance at the page: it runs the present phase, and the page is split in it
 pub record MayGlanceAt (z : Opening) (s : CoreState) (i page : ℕ) : Type 0 where
   pub there : i < z.workers
   pub known : page < length z.counts
   pub runs : s.state i ≡ Runs s.phase
-  pub sliced : is_split_now z s page ≡ true
+  pub split : is_split_now z s page ≡ true
 
 -- the state after the move: a glance changes nothing
 abbrev pub after_move : Opening → CoreState → Move → CoreState

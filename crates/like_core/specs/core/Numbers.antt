@@ -56,8 +56,8 @@ abbrev pub with_more : Numbers → ℕ → ℕ → Numbers
 with_more n page likes = with_count n page (n.count page + likes)
 
 -- whether likes of the page go into slices in the present phase
-abbrev pub sliced : Numbers → ℕ → Bool
-sliced n page = split_by n.limits.hot n.marked (λ _. n.hot) n.phase page
+abbrev pub splits : Numbers → ℕ → Bool
+splits n page = split_by n.limits.hot n.marked (λ _. n.hot) n.phase page
 
 -- the page's count and all its unmerged likes
 abbrev pub total : Numbers → ℕ → ℕ

@@ -13,7 +13,7 @@ use Rattle.like_core.specs.declared.pure_core.refusal.NotNow.TheVariants.{NoSuch
 use Rattle.like_limits.specs.Limits.{total_bound}
 use Rattle.like_core.specs.Functions.{MayAll}
 use Rattle.like_core.specs.Phase.{IsJoined, IsSplit}
-use Rattle.like_core.specs.core.Numbers.{Numbers, with_state, with_unmerged, sliced, total, AllIn, Sees, CoordSees, with_look, with_like, with_more}
+use Rattle.like_core.specs.core.Numbers.{Numbers, with_state, with_unmerged, splits, total, AllIn, Sees, CoordSees, with_look, with_like, with_more}
 
 -- the worker and the page that the event names exist, and so does the page of each bit of its mask
 abbrev pub NamesWhatIsThere : Numbers → Event → Type 0
@@ -39,8 +39,8 @@ Suits n (Report i) =
     × ((page : ℕ) → n.unmerged i page ≡ 0)
 Suits n (Retire i) = (n.state i ≡ Runs n.phase) × IsJoined n.phase
 Suits n (Like i page) = n.state i ≡ Runs n.phase
-Suits n (Read i page) = (n.state i ≡ Runs n.phase) × (sliced n page ≡ false)
-Suits n (Merge i page) = (n.state i ≡ Runs n.phase) × (sliced n page ≡ true) × (n.ending ≡ true)
+Suits n (Read i page) = (n.state i ≡ Runs n.phase) × (splits n page ≡ false)
+Suits n (Merge i page) = (n.state i ≡ Runs n.phase) × (splits n page ≡ true) × (n.ending ≡ true)
 Suits n (Hot i) = (n.state i ≡ Runs n.phase) × IsSplit n.phase
 Suits n CoordLook = Unit {0}
 Suits n (CoordRead page) = Unit {0}
@@ -77,7 +77,7 @@ IsShown n (Look i) shown = ((sight : Sight) × (shown ≡ Seen sight) × Sees n 
 IsShown n (Acknowledge i) shown = shown ≡ Done
 IsShown n (Report i) shown = shown ≡ Done
 IsShown n (Retire i) shown = shown ≡ Done
-IsShown n (Like i page) shown = shown ≡ (if sliced n page then Sliced else Old (n.count page))
+IsShown n (Like i page) shown = shown ≡ (if splits n page then Sliced else Old (n.count page))
 IsShown n (Read i page) shown = shown ≡ Count (n.count page)
 IsShown n (Merge i page) shown = shown ≡ Old (n.count page)
 IsShown n (Hot i) shown = shown ≡ HotShown n.hot
@@ -93,7 +93,7 @@ next n (Acknowledge i) = with_state n i (Answered n.phase)
 next n (Report i) = with_state n i (Answered n.phase)
 next n (Retire i) = with_state n i Gone
 next n (Like i page) =
-    (if sliced n page then with_like n i page else with_more n page 1)
+    (if splits n page then with_like n i page else with_more n page 1)
 next n (Read i page) = n
 next n (Merge i page) = with_more (with_unmerged n i page 0) page (n.unmerged i page)
 next n (Hot i) = n

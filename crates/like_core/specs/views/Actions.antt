@@ -51,7 +51,7 @@ Reads v page count w =
     IsEntry v.opening [] (makes (Read v.worker page)) (Count count)
     (Did (page_step v.worker (phase_of v.state) page count ReadCall)) (Worker v) (Worker w)
 
--- the worker glances at the count of a page that is sliced, which is this
+-- the worker glances at the count of a page that is split, which is this
 abbrev pub Glances : WorkerSeatView → ℕ → ℕ → WorkerSeatView → Type 0
 Glances v page count w =
     IsEntry v.opening [] (glances v.worker page) (Count count)

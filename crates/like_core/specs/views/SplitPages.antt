@@ -10,7 +10,7 @@ use Rattle.like_core.specs.Phase.{IsSplit, is_marked}
 use Rattle.like_core.specs.OpeningLimits.{has_slots}
 use Rattle.like_core.specs.Slots.{IsChoice, IsInSlot}
 use Rattle.like_core.specs.WorkerState.{IsRunning}
-use Rattle.like_core.specs.Post.{KnowsSlices, slices}
+use Rattle.like_core.specs.Post.{KnowsSplit, is_split_at}
 use Rattle.like_core.specs.core.State.{is_split_now}
 use Rattle.like_core.specs.views.Layout.{mask_place, slot_in}
 use Rattle.like_core.specs.views.Shows.{Moment}
@@ -27,9 +27,9 @@ abbrev pub SlotsAreExact : Type 0
 SlotsAreExact =
     (z : Opening) (m : Moment z) → has_slots z.limits ≡ true → IsSplit m.shown.state.phase → AreExact z m
 
--- at each moment, a worker that runs a phase and knows whether a page is sliced in it slices just what is split in it
-abbrev pub SlicesAreSplit : Type 0
-SlicesAreSplit =
+-- at each moment, a page is split at a worker that runs a phase, and knows whether it is, just if it is split then
+abbrev pub SplitPagesAgree : Type 0
+SplitPagesAgree =
     (z : Opening) (m : Moment z) (place : ℕ) (v : WorkerSeatView) (page : ℕ)
-    → get_elem? m.views place ≡ some (Worker v) → IsRunning v.state → KnowsSlices v page
-    → slices v page ≡ is_split_now z m.shown.state page
+    → get_elem? m.views place ≡ some (Worker v) → IsRunning v.state → KnowsSplit v page
+    → is_split_at v page ≡ is_split_now z m.shown.state page

@@ -15,7 +15,7 @@ use Rattle.like_core.specs.Phase.{IsJoined}
 use Rattle.like_core.specs.OpeningLimits.{has_slots}
 use Rattle.like_core.specs.Slots.{IsChoice, mask_of_slots}
 use Rattle.like_core.specs.word.Forms.{form_of}
-use Rattle.like_core.specs.Post.{slices}
+use Rattle.like_core.specs.Post.{is_split_at}
 
 -- the coordinator's view before its first step, when this is the phase word
 abbrev pub fresh_coord : Opening → ℕ → CoordSeatView
@@ -36,13 +36,13 @@ fresh_coord z word = record {
   joined = [];
 }
 
--- the likes that an addition of n to a page merges: none if the page is not sliced, when the addition is itself a like
+-- the likes that an addition of n to a page merges: none if the page is not split, when the addition is itself a like
 abbrev pub likes_merged : WorkerSeatView → ℕ → ℕ → List Event
-likes_merged v page n = (if slices v page then replicate n (Like v.worker page) else [])
+likes_merged v page n = (if is_split_at v page then replicate n (Like v.worker page) else [])
 
 -- the event of an addition to a page, after the likes that it merges
 abbrev pub adding : WorkerSeatView → ℕ → Event
-adding v page = (if slices v page then Merge v.worker page else Like v.worker page)
+adding v page = (if is_split_at v page then Merge v.worker page else Like v.worker page)
 
 -- whether a sight shows all in, and none may come back before the release: none ever does in a run, nor at an ending in
 -- a service

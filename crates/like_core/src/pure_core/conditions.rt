@@ -1,7 +1,7 @@
 ghost use Rattle.std.specs.Prelude.{◌≡◌, ◌<◌, ◌^◌, ◌↔◌, ℕ, IsTrue, MatchOption};
 ghost use Rattle.like_core.specs.declared.event.Event.TheVariants.{Release};
 ghost use Rattle.like_core.specs.declared.worker_state.WorkerState.TheVariants.{Runs};
-ghost use Rattle.like_core.specs.core.Numbers.{sliced, total, AllIn, AllGone};
+ghost use Rattle.like_core.specs.core.Numbers.{splits, total, AllIn, AllGone};
 ghost use Rattle.like_core.specs.core.Table.{NamesWhatIsThere, Suits, LeavesLast, StaysBelowBound, Permits, Refuses};
 ghost use Rattle.like_core.specs.core.Core.{numbers_of};
 
@@ -14,7 +14,7 @@ use crate::worker_state::WorkerState;
 const MASK_BITS: usize = HOT_PAGES as usize;
 
 /// The largest total of a page.
-const MOST: u64 = 9_223_372_036_854_775_807;
+const MAX_TOTAL: u64 = 9_223_372_036_854_775_807;
 
 impl Core {
     fn has_worker(&self, worker: u32) -> bool
@@ -61,9 +61,9 @@ impl Core {
         self.states[worker as usize] == WorkerState::Runs(self.phase)
     }
 
-    pub(super) fn is_sliced(&self, page: u32) -> bool
+    pub(super) fn is_split(&self, page: u32) -> bool
         requires { page < (numbers_of self.now).pages }
-        ensures { result ≡ sliced (numbers_of self.now) page }
+        ensures { result ≡ splits (numbers_of self.now) page }
     {
         self.phase % 2 == 1 && (self.marks[page as usize] || is_hot(self.hot, page))
     }
@@ -119,9 +119,9 @@ impl Core {
             }
             Event::Retire(worker) => self.runs(worker) && joined,
             Event::Like(worker, _) => self.runs(worker),
-            Event::Read(worker, page) => self.runs(worker) && !self.is_sliced(page),
+            Event::Read(worker, page) => self.runs(worker) && !self.is_split(page),
             Event::Merge(worker, page) => {
-                self.runs(worker) && self.is_sliced(page) && self.ending
+                self.runs(worker) && self.is_split(page) && self.ending
             }
             Event::Hot(worker) => self.runs(worker) && !joined,
             Event::CoordLook | Event::CoordRead(_) => true,
@@ -144,7 +144,7 @@ impl Core {
         ensures { IsTrue result ↔ StaysBelowBound (numbers_of self.now) event }
     {
         match event {
-            Event::Like(_, page) => self.total(page) < MOST,
+            Event::Like(_, page) => self.total(page) < MAX_TOTAL,
             _ => true,
         }
     }

@@ -110,7 +110,7 @@ impl Core {
                 self.set_state(worker, WorkerState::Gone);
                 Shown::Done
             }
-            Event::Like(worker, page) if self.is_sliced(page) => {
+            Event::Like(worker, page) if self.is_split(page) => {
                 self.add_unmerged(worker, page);
                 Shown::Sliced
             }

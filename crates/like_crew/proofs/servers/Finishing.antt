@@ -13,7 +13,7 @@ use Rattle.like_core.specs.declared.view.WorkerSeatView.{WorkerSeatView}
 use Rattle.like_core.specs.PageSteps.{earliest_first}
 use Rattle.like_core.specs.Post.{additions_in, additions_of}
 use Rattle.like_tables.specs.UserTable.{UserTable}
-use Rattle.like_tables.specs.Share.{share_of, Share, place_of, serves}
+use Rattle.like_tables.specs.Share.{share_of, Share, rank_of, serves}
 use Rattle.like_promises.specs.declared.log.Ran.{Ran}
 use Rattle.like_promises.specs.declared.log.Took.{Took}
 use Rattle.like_promises.specs.Likes.{likes_among, likes_within}
@@ -38,25 +38,25 @@ whole-plan : (workload : Workload) (s : ServerView) (submitter : ℕ)
     → WorksFor workload s
     → IsDone workload s.worker
     → serves s.worker.last.share submitter ≡ true
-    → option_map_or requests_taken (slice_get s.inboxes (place_of s.worker.last.share.workers submitter)) 0
+    → option_map_or requests_taken (slice_get s.inboxes (rank_of s.worker.last.share.workers submitter)) 0
     ≡ length (plan_of workload submitter)
 whole-plan workload s submitter a h done mine =
     let share : Share = s.worker.last.share in
-    let place : ℕ = place_of share.workers submitter in
+    let place : ℕ = rank_of share.workers submitter in
     let it : submitter ≡ share.worker + share.workers * place = own-place share a.is_worker submitter mine in
     let plan : slice_get workload.plans submitter ≡ option_map (λ (i : InboxView). i.plan) (slice_get s.inboxes place) =
     ap (slice_get workload.plans) it
     ∙ sym (plan-at workload share.workers share.worker s.inboxes place (omega (arith, a.is_worker)) h.plans)
     ∙ slice_get-map (λ (i : InboxView). i.plan) s.inboxes place in
     by_inbox (slice_get s.inboxes place) refl plan where
-      by_inbox : (o : Option InboxView) → slice_get s.inboxes (place_of s.worker.last.share.workers submitter) ≡ o
+      by_inbox : (o : Option InboxView) → slice_get s.inboxes (rank_of s.worker.last.share.workers submitter) ≡ o
           → slice_get workload.plans submitter ≡ option_map (λ (i : InboxView). i.plan) o
           → option_map_or requests_taken o 0 ≡ length (plan_of workload submitter)
       by_inbox None e p =
           ap (λ (xs : List Request). length xs)
           (ap (λ o. unwrap_or o []) (sym p) ∙ unwrap_or-slice_get workload.plans submitter [])
       by_inbox (Some i) e p =
-          let place : ℕ = place_of s.worker.last.share.workers submitter in
+          let place : ℕ = rank_of s.worker.last.share.workers submitter in
           let within : place < length s.inboxes = slice_get_within s.inboxes place i e in
           let over : length i.plan < i.taken =
           ltb-true (length i.plan) i.taken
@@ -71,7 +71,7 @@ pub takes-plans : (workload : Workload) (s : ServerView)
     → TakesPlans workload s.worker.last.share.workers s.worker.last.share.worker s.worker.taken
 takes-plans workload s a h done submitter =
     let share : Share = s.worker.last.share in
-    let given : ℕ = option_map_or requests_taken (slice_get s.inboxes (place_of share.workers submitter)) 0 in
+    let given : ℕ = option_map_or requests_taken (slice_get s.inboxes (rank_of share.workers submitter)) 0 in
     a.taken submitter ∙ elim (cases_Bool (serves share submitter)) [
       | inl mine ↦ ap (λ n. cond (serves share submitter) (range_with_len 1 n) [])
           (whole-plan workload s submitter a h done mine)
@@ -191,7 +191,7 @@ agree-new s terms number post v inboxes is_worker fresh i new =
       by_test : (s : Setup) (inboxes : List InboxView) → All (λ i. i.taken ≡ 0) inboxes
           → (share : Share) (submitter : ℕ) (b : Bool)
           → cond b (range_with_len 1
-          (option_map_or requests_taken (slice_get inboxes (place_of share.workers submitter)) 0)) [] ≡ []
+          (option_map_or requests_taken (slice_get inboxes (rank_of share.workers submitter)) 0)) [] ≡ []
       by_test s inboxes untouched share submitter true =
-          ap (range_with_len 1) (nothing-given s inboxes untouched (place_of share.workers submitter))
+          ap (range_with_len 1) (nothing-given s inboxes untouched (rank_of share.workers submitter))
       by_test s inboxes untouched share submitter false = refl

@@ -13,7 +13,7 @@ use Rattle.like_core.specs.declared.worker_state.WorkerState.{WorkerState}
 use Rattle.like_core.specs.declared.worker_state.WorkerState.TheVariants as state
 use Rattle.like_core.specs.Phase.{is_hot_by, is_marked}
 use Rattle.like_core.specs.PhaseMasks.{mask_of}
-use Rattle.like_core.specs.Post.{answered, slices}
+use Rattle.like_core.specs.Post.{answered, is_split_at}
 use Rattle.like_core.specs.WorkerState.{IsSightOf, RunsJoined, RunsSplit, looked, phase_of, seen}
 use Rattle.like_core.specs.declared.view.WorkerSeatView.{WorkerSeatView}
 use Rattle.like_tables.specs.declared.held.Held.{Held}
@@ -35,18 +35,18 @@ use Rattle.like_crew.specs.Fresh.{AllOpen, IsModelled}
 use Rattle.like_crew.specs.Progress.{items_left, progress_of}
 use Rattle.like_crew.specs.Server.{Agree, ServerView}
 use Rattle.like_crew.specs.ServerTurns as server
-use Rattle.like_crew.specs.ServerTurns.{ServerTurns, place_at}
+use Rattle.like_crew.specs.ServerTurns.{ServerTurns, rank_at}
 use Rattle.like_crew.proofs.servers.Numbers.{place-own}
 use Rattle.like_crew.proofs.servers.Sights.{serves-last}
 
 -- how far a worker with these inboxes is
 abbrev far : WorkerView → List InboxView → WorkerProgress
-far v inboxes = record { state = v.post.state; items = sum_by items_left inboxes; looks = length v.held.held }
+far v inboxes = record { state = v.post.state; items = sum_by items_left inboxes; looks = length v.stash.looks }
 
 far-is : (v : WorkerView) (inboxes : List InboxView) (s : WorkerState) (items looks : ℕ)
     → v.post.state ≡ s
     → sum_by items_left inboxes ≡ items
-    → length v.held.held ≡ looks
+    → length v.stash.looks ≡ looks
     → far v inboxes ≡ record { state = s; items = items; looks = looks }
 far-is v inboxes s items looks a b c = λ m. record { state = a m; items = b m; looks = c m }
 
@@ -86,7 +86,7 @@ runs-last v h stashed after run =
 works-last : (v : WorkerView) (ending : Bool) (answer : Turn) (after : WorkerView)
     → Works v ending answer after
     → after.post.last ≡ v.post.last
-works-last v ending answer after (turns.runs_held first rest j e a run) =
+works-last v ending answer after (turns.runs_stashed first rest j e a run) =
     runs-last (without_first v rest) first true after run
 works-last v ending answer after (turns.retires j e ended a x) = ap (λ y. y.post.last) x
 works-last v ending answer after (turns.acknowledges j e ended seen a x) = ap (λ y. y.post.last) x
@@ -111,7 +111,7 @@ even-phase (state.Runs k) j = j
 even-phase (state.Answered k) j = absurd j
 even-phase state.Gone j = absurd j
 
-joined-plain : (post : WorkerSeatView) (page : ℕ) → RunsJoined post.state → slices post page ≡ false
+joined-plain : (post : WorkerSeatView) (page : ℕ) → RunsJoined post.state → is_split_at post page ≡ false
 joined-plain post page j =
     ap (λ n. (n == 1) && (is_marked post.opening.marks page
     || is_hot_by post.opening.limits.hot (mask_of post.masks (phase_of post.state)) page)) (even-phase post.state j)
@@ -120,7 +120,7 @@ joined-prompt : (v : WorkerView) (submitter : ℕ) (r : Request)
     → RunsJoined v.post.state
     → has_to_wait v submitter r ≡ false
 joined-prompt v submitter r j = by_ask (asked_in v.last.share submitter r) where
-  by_ask : (a : Ask) → must_wait (slices v.post) a ≡ false
+  by_ask : (a : Ask) → must_wait (is_split_at v.post) a ≡ false
   by_ask (like user page) = refl
   by_ask (look user page) = joined-plain v.post page j
   by_ask (refuse why) = refl
@@ -154,7 +154,7 @@ knows-items v inboxes a = record {
 
 -- a turn that tries a submitter: it runs a joined phase and holds nothing, or it runs a split phase
 abbrev pub MayTry : WorkerView → Type 0
-MayTry v = (RunsJoined v.post.state × (v.held.held ≡ [])) ⊎ RunsSplit v.post.state
+MayTry v = (RunsJoined v.post.state × (v.stash.looks ≡ [])) ⊎ RunsSplit v.post.state
 
 -- an inbox that handed over an item has one less left
 one-less : (i j : InboxView) (took : Taken)
@@ -179,12 +179,12 @@ module _ (all_open ending : Bool) where
       → after.pending ≡ None
       → Works v saw_end answer after
       → FreshWorks all_open ending (far v inboxes) (far after inboxes)
-  works-modelled v saw_end answer after inboxes k e none (turns.runs_held first rest j h a run) =
+  works-modelled v saw_end answer after inboxes k e none (turns.runs_stashed first rest j h a run) =
       let did = Runs-effects (without_first v rest) first true after run in
-      let before : length v.held.held ≡ length rest + 1 = ap (λ (xs : List Held). length xs) h ∙ omega arith in
-      let now : length after.held.held ≡ length rest = ap (λ x. length x.held) did.held in
-      fresh.runs_held j (omega (arith, before))
-      (far-is after inboxes v.post.state _ (length v.held.held - 1) did.state refl (omega (arith, before, now)))
+      let before : length v.stash.looks ≡ length rest + 1 = ap (λ (xs : List Held). length xs) h ∙ omega arith in
+      let now : length after.stash.looks ≡ length rest = ap (λ x. length x.looks) did.stash in
+      fresh.runs_stashed j (omega (arith, before))
+      (far-is after inboxes v.post.state _ (length v.stash.looks - 1) did.state refl (omega (arith, before, now)))
   works-modelled v saw_end answer after inboxes k e none (turns.retires j h ended a x) =
       fresh.retires j (ap (λ (xs : List Held). length xs) h) (k.none ended) (ap (λ y. far y inboxes) x)
   works-modelled v saw_end answer after inboxes k e none (turns.acknowledges j h ended seen a x) =
@@ -216,18 +216,18 @@ module _ (all_open ending : Bool) where
         subst (λ x. items_left x ≤ sum_by items_left inboxes) at most in
         omega (arith, mine, open_yet)
 
-    no-looks : v.held.held ≡ [] → length v.held.held ≡ 0
+    no-looks : v.stash.looks ≡ [] → length v.stash.looks ≡ 0
     no-looks h = ap (λ (xs : List Held). length xs) h
 
     -- nothing was found
     finds-none : (after : WorkerView) → MayTry v → j ≡ i → all_open ≡ false
         → after.post.state ≡ v.post.state
-        → length after.held.held ≡ length v.held.held
+        → length after.stash.looks ≡ length v.stash.looks
         → FreshWorks all_open ending (far v inboxes) (far after (set inboxes place j))
     finds-none after may same shut s h =
         let left : items_left j ≡ items_left i = ap items_left same in
         let is : far after (set inboxes place j) ≡ far v inboxes =
-        far-is after (set inboxes place j) v.post.state (sum_by items_left inboxes) (length v.held.held) s
+        far-is after (set inboxes place j) v.post.state (sum_by items_left inboxes) (length v.stash.looks) s
         (omega (arith, left, left-now)) h in
         elim may [
           | inl joined ↦ fresh.finds_nothing joined.0 (no-looks joined.1) some-left runs_on shut is
@@ -237,7 +237,7 @@ module _ (all_open ending : Bool) where
     -- an item was taken, and is done with
     takes-one : (after : WorkerView) (took : Taken) → MayTry v → HandsOver i took j → took ≢ taken.Nothing
         → after.post.state ≡ v.post.state
-        → length after.held.held ≡ length v.held.held
+        → length after.stash.looks ≡ length v.stash.looks
         → FreshWorks all_open ending (far v inboxes) (far after (set inboxes place j))
     takes-one after took may hands some s h =
         let less = one-less i j took hands open_yet some in
@@ -245,25 +245,25 @@ module _ (all_open ending : Bool) where
         ≡ record {
           state = v.post.state;
           items = sum_by items_left inboxes - 1;
-          looks = length v.held.held;
+          looks = length v.stash.looks;
         } =
-        far-is after (set inboxes place j) v.post.state (sum_by items_left inboxes - 1) (length v.held.held) s
+        far-is after (set inboxes place j) v.post.state (sum_by items_left inboxes - 1) (length v.stash.looks) s
         (omega (arith, less, left-now)) h in
         elim may [
           | inl joined ↦ fresh.takes_joined joined.0 (no-looks joined.1) some-left runs_on is
           | inr split ↦ fresh.takes_split split runs_on some-left is
         ]
 
-    -- a look was taken, and is held
-    puts-by : (after : WorkerView) (took : Taken) → RunsSplit v.post.state → HandsOver i took j → took ≢ taken.Nothing
+    -- a look was taken, and is stashed
+    stashes : (after : WorkerView) (took : Taken) → RunsSplit v.post.state → HandsOver i took j → took ≢ taken.Nothing
         → after.post.state ≡ v.post.state
-        → length after.held.held ≡ length v.held.held + 1
+        → length after.stash.looks ≡ length v.stash.looks + 1
         → FreshWorks all_open ending (far v inboxes) (far after (set inboxes place j))
-    puts-by after took split hands some s h =
+    stashes after took split hands some s h =
         let less = one-less i j took hands open_yet some in
         fresh.stashes split runs_on some-left
         (far-is after (set inboxes place j) v.post.state
-        (sum_by items_left inboxes - 1) (length v.held.held + 1) s (omega (arith, less, left-now)) h)
+        (sum_by items_left inboxes - 1) (length v.stash.looks + 1) s (omega (arith, less, left-now)) h)
 
     given-modelled : (took : Taken) (answer : Turn) (after : WorkerView) → MayTry v → HandsOver i took j
         → (took ≡ taken.Nothing → all_open ≡ false)
@@ -271,21 +271,21 @@ module _ (all_open ending : Bool) where
         → FreshWorks all_open ending (far v inboxes) (far after (set inboxes place j))
     given-modelled took answer after may hands shut (turns.nothing g a x) =
         finds-none after may (subst (λ t. HandsOver i t j) g hands).1 (shut g) (ap (λ y. y.post.state) x)
-        (ap (λ y. length y.held.held) x)
+        (ap (λ y. length y.stash.looks) x)
     given-modelled took answer after may hands shut (turns.ends p is g a x) =
-        takes-one after took may hands (λ e. cc (e, g)) (ap (λ y. y.post.state) x) (ap (λ y. length y.held.held) x)
+        takes-one after took may hands (λ e. cc (e, g)) (ap (λ y. y.post.state) x) (ap (λ y. length y.stash.looks) x)
     given-modelled took answer after may hands shut (turns.asks p ask is g (turns.runs w a run)) =
         let did = Runs-effects (with_taken (settled (trying v place)) p ask)
         (held_from (settled (trying v place)) p ask) false after run in
-        takes-one after took may hands (λ e. cc (e, g)) did.state (ap (λ x. length x.held) did.held)
+        takes-one after took may hands (λ e. cc (e, g)) did.state (ap (λ x. length x.looks) did.stash)
     given-modelled took answer after may hands shut (turns.asks p ask is g (turns.stashes w a x)) =
         elim may [
           | inl joined ↦
               absurd (true≢false (sym w ∙ joined-prompt (settled (trying v place))
               (submitter_at (settled (trying v place)) p) ask.request joined.0))
           | inr split ↦
-              puts-by after took split hands (λ e. cc (e, g)) (ap (λ y. y.post.state) x)
-              (ap (λ y. length y.held.held) x ∙ length_push v.held.held (held_from (settled (trying v place)) p ask))
+              stashes after took split hands (λ e. cc (e, g)) (ap (λ y. y.post.state) x)
+              (ap (λ y. length y.stash.looks) x ∙ length_push v.stash.looks (held_from (settled (trying v place)) p ask))
         ]
 
 -- what a turn does that tries a submitter
@@ -301,7 +301,7 @@ pub tries-one : (v : WorkerView) (ending : Bool) (answer : Turn) (tried : Worker
     → answer ≡ turn.Try submitter
     → Works v ending answer tried
     → TriesOne v tried ending submitter
-tries-one v ending answer tried submitter q (turns.runs_held first rest j e a run) = absurd (cc (a, q))
+tries-one v ending answer tried submitter q (turns.runs_stashed first rest j e a run) = absurd (cc (a, q))
 tries-one v ending answer tried submitter q (turns.retires j e ended a x) = absurd (cc (a, q))
 tries-one v ending answer tried submitter q (turns.acknowledges j e ended seen a x) = absurd (cc (a, q))
 tries-one v ending answer tried submitter q (turns.tries_joined place j e next seen a x) =
@@ -325,7 +325,7 @@ none-tried all_open phase ending u v answer inboxes a none looks (turns.waits si
     (ap (λ y. y.post.last) x) (looks here) in
     let now = waits-state u.post.state sight phase i w shown.0 in
     fresh.waits now.0
-    (far-is v inboxes u.post.state _ _ (ap (λ y. y.post.state) x ∙ now.1) refl (ap (λ y. length y.held.held) x))
+    (far-is v inboxes u.post.state _ _ (ap (λ y. y.post.state) x ∙ now.1) refl (ap (λ y. length y.stash.looks) x))
 none-tried all_open phase ending u v answer inboxes a none looks (turns.works sight mask number here i w x) =
     let v1 : WorkerView = saw u sight mask number in
     let shown = subst (λ l. IsSomeAnd l (λ sight. (sight.number ≡ phase) × (sight.ending ≡ ending)))
@@ -345,10 +345,10 @@ one-tried : (all_open : Bool) (phase : ℕ) (ending : Bool) (s : ServerView) (tr
     → (s.worker.post.state ≢ state.Gone
     → IsSomeAnd after.post.last (λ sight. (sight.number ≡ phase) × (sight.ending ≡ ending)))
     → asked ≡ turn.Try submitter
-    → slice_get s.inboxes (place_at s submitter) ≡ Some i → HandsOver i took j
-    → (took ≡ taken.Nothing → get_or s.opened (place_at s submitter) 0 ≤ i.taken)
+    → slice_get s.inboxes (rank_at s submitter) ≡ Some i → HandsOver i took j
+    → (took ≡ taken.Nothing → get_or s.opened (rank_at s submitter) 0 ≤ i.taken)
     → Gives tried took answer after → Turns s.worker asked tried
-    → FreshTurns all_open phase ending (progress_of s) (far after (set s.inboxes (place_at s submitter) j))
+    → FreshTurns all_open phase ending (progress_of s) (far after (set s.inboxes (rank_at s submitter) j))
 one-tried all_open phase ending s tried after asked answer submitter i j took a lists looks q here hands none gives
     (turns.is_gone gone told x) = absurd (cc (told, q))
 one-tried all_open phase ending s tried after asked answer submitter i j took a lists looks q here hands none gives
@@ -359,23 +359,23 @@ one-tried all_open phase ending s tried after asked answer submitter i j took a 
     let o = tries-one v1 sight.ending asked tried submitter q x in
     let shown = subst (λ l. IsSomeAnd l (λ sight. (sight.number ≡ phase) × (sight.ending ≡ ending)))
     (gives-last tried took answer after gives ∙ works-last v1 sight.ending asked tried x) (looks there) in
-    let at : place_at s submitter ≡ o.place =
-    ap (place_at s) o.whose ∙ place-own s.worker.last.share a.is_worker o.place in
+    let at : rank_at s submitter ≡ o.place =
+    ap (rank_at s) o.whose ∙ place-own s.worker.last.share a.is_worker o.place in
     let found : slice_get s.inboxes o.place ≡ Some i = ap (slice_get s.inboxes) (sym at) ∙ here in
     let open_yet : i.taken ≤ length i.plan =
     ltb-false (length i.plan) i.taken (sym (a.each o.place i found).ended ∙ o.open_yet) in
     let shut : took ≡ taken.Nothing → all_open ≡ false =
     λ e. elim (cases_Bool all_open) [
       | inl all ↦
-          let opened : get_or s.opened (place_at s submitter) 0 ≡ item_count i.plan =
-          get_or_from_slice_get s.opened (place_at s submitter) (item_count i.plan) 0
-          (lists all (place_at s submitter) i here) in
+          let opened : get_or s.opened (rank_at s submitter) 0 ≡ item_count i.plan =
+          get_or_from_slice_get s.opened (rank_at s submitter) (item_count i.plan) 0
+          (lists all (rank_at s submitter) i here) in
           absurd (omega (arith, opened, none e, open_yet))
       | inr some ↦ some
     ] in
     let enters : far v1 s.inboxes ≡ fresh.saw phase (progress_of s) =
     far-is v1 s.inboxes _ _ _ (enters-state s.worker.post.state sight phase shows w shown.0) refl refl in
-    fresh.works (subst (λ p. FreshWorks all_open ending p (far after (set s.inboxes (place_at s submitter) j))) enters
+    fresh.works (subst (λ p. FreshWorks all_open ending p (far after (set s.inboxes (rank_at s submitter) j))) enters
     (subst (λ p. FreshWorks all_open ending (far v1 s.inboxes) (far after (set s.inboxes p j))) (sym at)
     (given-modelled all_open ending v1 o.place i j s.inboxes found open_yet (sym shown.1 ∙ o.runs_on) took answer after
     o.may hands shut (subst (λ y. Gives y took answer after) o.is gives))))

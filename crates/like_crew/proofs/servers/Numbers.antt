@@ -11,7 +11,7 @@ use Rattle.std.proofs.lemmas.List.FromFn.{length-range_with_len, map-range_with_
 use Rattle.std.proofs.lemmas.List.Sums.{length-filter}
 use Rattle.std.proofs.lemmas.Nat.{div-mul-add, mod-mul-add}
 use Rattle.like_queue.specs.Inbox.{InboxView}
-use Rattle.like_tables.specs.Share.{Share, place_of, serves}
+use Rattle.like_tables.specs.Share.{Share, rank_of, serves}
 use Rattle.like_promises.specs.declared.log.Took.{Took}
 use Rattle.like_crew.specs.Server.{numbers_taken}
 use Rattle.like_crew.proofs.lists.Stepped.{slice_get-set_other, slice_get-set_same}
@@ -55,10 +55,10 @@ module _ (share : Share) (is_worker : share.worker < share.workers) where
   serves-own place =
       eq-eqb _ _ (ap (λ n. n % share.workers) (turned place) ∙ mod-mul-add place share.workers share.worker is_worker)
 
-  pub place-own : (place : ℕ) → place_of share.workers (share.worker + share.workers * place) ≡ place
+  pub place-own : (place : ℕ) → rank_of share.workers (share.worker + share.workers * place) ≡ place
   place-own place = ap (λ n. n / share.workers) (turned place) ∙ div-mul-add place share.workers share.worker is_worker
 
-  pub own-place : (s : ℕ) → serves share s ≡ true → s ≡ share.worker + share.workers * place_of share.workers s
+  pub own-place : (s : ℕ) → serves share s ≡ true → s ≡ share.worker + share.workers * rank_of share.workers s
   own-place s h =
       let m : s % share.workers ≡ share.worker = eqb-true _ _ h in
       let d : share.workers * (s / share.workers) + s % share.workers ≡ s = div-add-mod s share.workers in
@@ -70,7 +70,7 @@ module _ (share : Share) (is_worker : share.worker < share.workers) where
   given-own inboxes place i h =
       ap (λ b. cond b
       (range_with_len 1
-      (option_map_or requests_taken (slice_get inboxes (place_of share.workers (own place))) 0)) [])
+      (option_map_or requests_taken (slice_get inboxes (rank_of share.workers (own place))) 0)) [])
       (serves-own place)
       ∙ ap (λ p. range_with_len 1 (option_map_or requests_taken (slice_get inboxes p) 0)) (place-own place)
       ∙ ap (λ o. range_with_len 1 (option_map_or requests_taken o 0)) h
@@ -81,16 +81,16 @@ module _ (share : Share) (is_worker : share.worker < share.workers) where
   given-else inboxes place s j other =
       elim (cases_Bool (serves share s)) [
         | inl served ↦
-            let else_where : place_of share.workers s ≢ place = λ e. other (own-place s served ∙ ap own e) in
+            let else_where : rank_of share.workers s ≢ place = λ e. other (own-place s served ∙ ap own e) in
             ap (λ o. cond (serves share s) (range_with_len 1 (option_map_or requests_taken o 0)) [])
-            (slice_get-set_other inboxes place (place_of share.workers s) j else_where)
+            (slice_get-set_other inboxes place (rank_of share.workers s) j else_where)
         | inr no_one ↦
             ap (λ b. cond b
             (range_with_len 1
-            (option_map_or requests_taken (slice_get (set inboxes place j) (place_of share.workers s)) 0)) [])
+            (option_map_or requests_taken (slice_get (set inboxes place j) (rank_of share.workers s)) 0)) [])
             no_one
             ∙ sym (ap (λ b. cond b
-            (range_with_len 1 (option_map_or requests_taken (slice_get inboxes (place_of share.workers s)) 0)) [])
+            (range_with_len 1 (option_map_or requests_taken (slice_get inboxes (rank_of share.workers s)) 0)) [])
             no_one)
       ]
 

@@ -39,7 +39,7 @@ runs-told v h stashed after run =
 works-told : (v : WorkerView) (ending : Bool) (answer : Turn) (after : WorkerView)
     → Works v ending answer after
     → told after ≡ told v
-works-told v ending answer after (turns.runs_held first rest j e a run) =
+works-told v ending answer after (turns.runs_stashed first rest j e a run) =
     runs-told (without_first v rest) first true after run
 works-told v ending answer after (turns.retires j e ended a x) = ap told x
 works-told v ending answer after (turns.acknowledges j e ended seen a x) = ap told x

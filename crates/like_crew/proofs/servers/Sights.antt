@@ -132,7 +132,7 @@ works-seen : (v : WorkerView) (ending : Bool) (answer : Turn) (after : WorkerVie
     → Works v ending answer after
     → HasSeen v
     → HasSeen after
-works-seen v ending answer after (turns.runs_held first rest j e a run) h =
+works-seen v ending answer after (turns.runs_stashed first rest j e a run) h =
     runs-seen (without_first v rest) first true after run h
 works-seen v ending answer after (turns.retires j e ended a x) h =
     subst HasSeen (sym x) (h.0, λ here. absurd (here refl))
@@ -167,7 +167,7 @@ works-tries : (v : WorkerView) (ending : Bool) (answer : Turn) (after : WorkerVi
     → v.post.last ≡ Some sight
     → Works v ending answer after
     → answer ≡ turn.Try submitter → IsTrying after
-works-tries v ending answer after sight submitter l (turns.runs_held first rest j e a run) r = cc (a, r)
+works-tries v ending answer after sight submitter l (turns.runs_stashed first rest j e a run) r = cc (a, r)
 works-tries v ending answer after sight submitter l (turns.retires j e ended a x) r = cc (a, r)
 works-tries v ending answer after sight submitter l (turns.acknowledges j e ended seen a x) r = cc (a, r)
 works-tries v ending answer after sight submitter l (turns.tries_joined place j e next seen a x) r =

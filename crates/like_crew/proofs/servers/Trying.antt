@@ -16,7 +16,7 @@ use Rattle.like_roles.specs.worker.Turns as turns
 use Rattle.like_roles.specs.worker.Turns.{CanGive, Gives, HasTaken, Pends, TakesNothing, Turns}
 use Rattle.like_roles.specs.worker.WorkerView.{WorkerView, submitter_at}
 use Rattle.like_crew.specs.Server.{Agree, ServerGoesOn, ServerView, WorksFor}
-use Rattle.like_crew.specs.ServerTurns.{ServerTurns, TakesOpen, place_at, tries}
+use Rattle.like_crew.specs.ServerTurns.{ServerTurns, TakesOpen, rank_at, tries}
 use Rattle.like_crew.proofs.servers.Agreeing.{agree-give, agree-turn, can-give, notes-given, share-given, works-given, works-turn}
 use Rattle.like_crew.proofs.servers.Numbers.{place-own}
 use Rattle.like_crew.proofs.servers.OnlyOpen.{takes-open}
@@ -107,7 +107,7 @@ module _ {J : Type 0} (view : J → InboxView) (u v : WorkerView) (lists : List 
 
       pub turns-given : opened j ≡ opened i → (took ≡ Nothing → opened i ≤ (view i).taken) → ServerTurns last before after
       turns-given opens none =
-          let p : ℕ = place_at before submitter in
+          let p : ℕ = rank_at before submitter in
           let all : map opened (set lists place j) ≡ map opened lists =
           map-set_same opened lists place j i (opens ∙ ap opened value) in
           let open_now : get_or (map opened lists) p 0 ≡ opened i =

@@ -23,7 +23,7 @@ use Rattle.like_crew.specs.Fresh.{AllOpen}
 use Rattle.like_crew.specs.Progress.{progress_of}
 use Rattle.like_crew.specs.Server.{ServerView}
 use Rattle.like_crew.specs.ServerTurns as server
-use Rattle.like_crew.specs.ServerTurns.{OpensAll, OpensOne, ServerTurns, place_at}
+use Rattle.like_crew.specs.ServerTurns.{OpensAll, OpensOne, ServerTurns, rank_at}
 use Rattle.like_crew.specs.Steps.{MakesFreshTurn}
 use Rattle.like_crew.proofs.lists.Stepped.{slice_get-set_other, slice_get-set_same}
 use Rattle.like_crew.proofs.servers.Agreeing.{plan-taken}
@@ -43,7 +43,7 @@ works-gone : (v : WorkerView) (ending : Bool) (answer : Turn) (after : WorkerVie
     → after.post.state ≡ state.Gone
     → Works v ending answer after
     → answer ≡ turn.Retired
-works-gone v ending answer after gone (turns.runs_held first rest j h a run) =
+works-gone v ending answer after gone (turns.runs_stashed first rest j h a run) =
     let did = Runs-effects (without_first v rest) first true after run in
     absurd (running_here IsJoined v.post.state j (sym did.state ∙ gone))
 works-gone v ending answer after gone (turns.retires j h ended a x) = a
@@ -108,7 +108,7 @@ stays-gone answer s t gone (server.tries submitter tried i j took turns here han
 pub stays-open : (answer : Turn) (s t : ServerView) → AllOpen s → ServerTurns answer s t → AllOpen t
 stays-open answer s t all (server.tries_none turns none same) = subst AllOpen (sym same) all
 stays-open answer s t all (server.tries submitter tried i j took turns here hands none gives same) =
-    let place : ℕ = place_at s submitter in
+    let place : ℕ = rank_at s submitter in
     subst AllOpen (sym same) (λ other inbox at. elim (cases_eq other place) [
       | inl mine ↦
           let is : j ≡ inbox =

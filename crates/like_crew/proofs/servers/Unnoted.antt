@@ -43,7 +43,7 @@ works-adds : (v : WorkerView) (ending : Bool) (answer : Turn) (after : WorkerVie
     → v.notes ≡ false
     → Works v ending answer after
     → after.adds ≡ v.adds
-works-adds v ending answer after n (turns.runs_held first rest j e a run) =
+works-adds v ending answer after n (turns.runs_stashed first rest j e a run) =
     runs-adds (without_first v rest) first true after n run
 works-adds v ending answer after n (turns.retires j e ended a x) = ap adds_of x
 works-adds v ending answer after n (turns.acknowledges j e ended seen a x) = ap adds_of x

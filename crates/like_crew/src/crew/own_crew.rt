@@ -9,7 +9,7 @@ ghost use Rattle.like_roles.specs.declared.coord_turn.CoordTurn.TheVariants.{End
 ghost use Rattle.like_crew.specs.Crew.{AreGone, GoesOn, HasInbox, IsCrewAt, IsNewCrew};
 ghost use Rattle.like_crew.specs.Outcome.{HasOutcome};
 ghost use Rattle.like_crew.specs.Server.{ServerView};
-ghost use Rattle.like_crew.specs.ServerTurns.{OpensAll, OpensOne, place_at};
+ghost use Rattle.like_crew.specs.ServerTurns.{OpensAll, OpensOne, rank_at};
 ghost use Rattle.like_crew.specs.Steps.{AtServer, FreshRound, IsFreshTurn, LeadsFresh, MakesFreshTurn, OpensMore};
 
 use crate::crew::list_inboxes;
@@ -217,7 +217,7 @@ impl OwnCrew {
     fn open_list_of(&mut self, worker: usize, submitter: u32)
         requires worker { worker < length self.old.servers }
         requires there { (s : ServerView) → slice_get self.old.servers worker ≡ Some s
-            → place_at s submitter < length s.inboxes }
+            → rank_at s submitter < length s.inboxes }
         ensures opens { AtServer worker (OpensOne submitter) self.old.servers self.new.servers }
         ensures rest { self.new.coordinator ≡ self.old.coordinator }
         ensures goes_on { GoesOn self.old self.new }

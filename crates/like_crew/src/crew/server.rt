@@ -6,7 +6,7 @@ ghost use Rattle.like_promises.specs.Workload.{Workload};
 ghost use Rattle.like_roles.specs.worker.Follows.{IsWorkloadOf};
 ghost use Rattle.like_crew.specs.Fresh.{IsModelled};
 ghost use Rattle.like_crew.specs.Server.{AreInboxesFor, AreOwnPlans, IsLogOf, ServerGoesOn, WorksFor};
-ghost use Rattle.like_crew.specs.ServerTurns.{OpensAll, OpensOne, ServerTurns, TakesOpen, place_at};
+ghost use Rattle.like_crew.specs.ServerTurns.{OpensAll, OpensOne, ServerTurns, TakesOpen, rank_at};
 
 mod own_server;
 
@@ -20,8 +20,8 @@ use like_roles::{Gate, NoWorker, Terms, Turn};
 use std::alloc::Global;
 use std::marker::Model;
 
-/// A worker at its post, with the inboxes of the submitters that it serves: the inbox at place `j` is that of submitter
-/// `w + j N`, for worker `w` of `N`.
+/// A worker at its post, with the inboxes of the submitters that it serves: the inbox with rank `j` is that of
+/// submitter `w + j N`, for worker `w` of `N`.
 #[derive(Drop)]
 pub struct Server<P: Post, I: Inbox> {
     post: P,
@@ -114,7 +114,7 @@ impl<P: Post, I: Inbox> Server<P, I> {
 impl<P: Post> Server<P, ListInbox> {
     /// Opens one item more of a submitter's list.
     pub fn open_one(&mut self, submitter: u32)
-        requires { place_at self.old submitter < length self.old.inboxes }
+        requires { rank_at self.old submitter < length self.old.inboxes }
         ensures opens { OpensOne submitter self.old self.new }
         ensures goes_on { ServerGoesOn self.old self.new }
     {

@@ -19,8 +19,8 @@ use like_requests::Setup;
 use like_roles::{Gate, Terms, Turn, Work};
 use std::alloc::{AllocError, Global};
 
-/// A worker's work with the inboxes of the submitters that it serves, its post aside: the inbox at place `j` is that of
-/// submitter `w + j N`, for worker `w` of `N`.
+/// A worker's work with the inboxes of the submitters that it serves, its post aside: the inbox with rank `j` is that
+/// of submitter `w + j N`, for worker `w` of `N`.
 #[derive(Drop)]
 pub(crate) struct Serving<I: Inbox> {
     pub work: Work,

@@ -85,7 +85,8 @@ fn prepare_end<C: Choice>(
     prepare_split_end(lead, splits, hint, end)
 }
 
-// The same of a joined phase. Pages are proposed if the host may want it to end and nothing would be split in the next.
+// Whether a joined phase is to end. Pages are proposed if the host may want it to end and nothing would be split in the
+// next.
 fn prepare_joined_end<C: Choice>(lead: &Lead, splits: &mut Splits<C>, end: End) -> bool
     requires running { SawRunning lead.now.seat }
     ensures { EndsJoined splits.old end result splits.new }
@@ -100,8 +101,8 @@ fn prepare_joined_end<C: Choice>(lead: &Lead, splits: &mut Splits<C>, end: End) 
     end == End::Always || splits.would_split()
 }
 
-// The same of a split phase. It ends if the host wants that, or if a seat asks for it by the hint, and then pages are
-// proposed. A hint counts in split phases alone, since looks wait in these alone.
+// Whether a split phase is to end. It ends if the host wants that, or if a seat asks for it by the hint, and then pages
+// are proposed. A hint counts in split phases alone, since looks wait in these alone.
 fn prepare_split_end<C: Choice>(
     lead: &Lead,
     splits: &mut Splits<C>,

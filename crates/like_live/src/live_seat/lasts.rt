@@ -18,14 +18,14 @@ impl<P: Post> LiveSeat<P> {
         }
     }
 
-    /// Whether the seat has `many` users from place `from` on. At place `i` of seat `s` is user `i * seats + s`.
+    /// Whether the seat has `many` users from rank `from` on. With rank `i` at seat `s` is user `i * seats + s`.
     pub fn has_users(&self, from: u32, many: usize) -> bool
         ensures { IsTrue result ↔ (from + many ≤ users_of self.now) }
     {
-        self.station.users().has_places(from, many)
+        self.station.users().has_ranks(from, many)
     }
 
-    /// Writes the last likes of the seat's users from place `from` on: each one's page, or `NO_PAGE`. It works in every
+    /// Writes the last likes of the seat's users from rank `from` on: each one's page, or `NO_PAGE`. It works in every
     /// state. While a joined phase is ending and all seats are in, all last likes are of one moment, as no clause says.
     pub fn lasts(&self, from: u32, row: &mut [u32])
         requires { from + length row.old ≤ users_of self.now }

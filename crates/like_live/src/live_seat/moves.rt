@@ -38,7 +38,7 @@ impl<P: SlotPost> LiveSeat<P> {
         (answer, self.station.phase())
     }
 
-    // The same, of a seat that has answered its phase or is gone.
+    // Does the phase work of a seat that has answered its phase or is gone.
     #[cold]
     #[inline(never)]
     fn advance_late(&mut self) -> TurnAnswer
@@ -131,12 +131,12 @@ fn find_all<P: Post>(station: &mut ServiceStation<P, Asked>, found: &mut Stash<F
     requires looked { HasLooked station.old found.old }
     requires joined { RunsJoined station.old.post.state }
     ensures finds { FindsAll (live_of station.old found.old) (live_of station.new found.new) }
-    ensures next { All RanNext found.new.held }
+    ensures next { All RanNext found.new.looks }
     ensures station { IsStation station.new }
     ensures capacity { found.new.capacity ≡ found.old.capacity }
 {
     let phase = station.phase();
-    while let Some(asked) = station.next_held() {
+    while let Some(asked) = station.next_stashed() {
         let seen = station.read_for(asked.user, asked.page);
         found.push(Found {
             asked,

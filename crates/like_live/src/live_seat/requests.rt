@@ -1,9 +1,9 @@
 ghost use Rattle.std.specs.Prelude.{◌≡◌, ◌≢◌, ◌+◌, ◌-◌, ◌^◌, ◌<◌, false, min, IfNone, IfSome, IsTrue, length};
-ghost use Rattle.like_core.specs.Post.{slices};
+ghost use Rattle.like_core.specs.Post.{is_split_at};
 ghost use Rattle.like_core.specs.WorkerState.{IsRunning, RunsSplit};
 ghost use Rattle.like_seat.specs.StationView.{phase_at};
 ghost use Rattle.like_live.specs.LiveView.{IsLive, IsOwn, room_of, waiting};
-ghost use Rattle.like_live.specs.Calls.{GlancesNow, IsAccepted, LikesNow, LooksNow, PutsBy, asked_in, verdict_at};
+ghost use Rattle.like_live.specs.Calls.{GlancesNow, IsAccepted, LikesNow, LooksNow, Stashes, asked_in, verdict_at};
 
 use crate::answer::{GlanceAnswer, LikeAnswer, LookAnswer};
 use crate::asked::Asked;
@@ -14,13 +14,13 @@ use like_choice::Kind;
 use like_core::{Glances, Post};
 use like_requests::Verdict;
 use like_seat::ServiceStation;
-use like_tables::Placed;
+use like_tables::Ranked;
 
 // A request that is accepted.
 #[derive(Clone, Copy)]
 struct Accepted {
     // Its user.
-    placed: Placed,
+    ranked: Ranked,
     // Whether its page is split now.
     split: bool,
 }
@@ -70,19 +70,19 @@ fn plan_ahead(room: &mut LookRoom, signals: &mut Signals, found: u32, half: u32)
 }
 
 impl<P: Post> LiveSeat<P> {
-    // The user with its place, if a request of the user for a page is accepted. It costs no division. A page that is
+    // The user with its rank, if a request of the user for a page is accepted. It costs no division. A page that is
     // split exists, and needs no other test. Whether it is split is tested once.
     #[inline(always)]
     fn accepts(&self, user: u32, page: u32) -> Option<Accepted>
         requires { IsRunning self.now.station.post.state }
-        ensures accepted { IfSome result (λ a. IsAccepted self.now.station user page a.placed) }
-        ensures split { IfSome result (λ a. a.split ≡ slices self.now.station.post page) }
+        ensures accepted { IfSome result (λ a. IsAccepted self.now.station user page a.ranked) }
+        ensures split { IfSome result (λ a. a.split ≡ is_split_at self.now.station.post page) }
         ensures refused { IfNone result (verdict_at self.now.station user page ≢ Verdict.Accepted) }
     {
-        let placed = self.station.users().find(&self.home, user)?;
-        if self.station.is_sliced(page) {
+        let ranked = self.station.users().find(&self.home, user)?;
+        if self.station.is_split(page) {
             return Some(Accepted {
-                placed,
+                ranked,
                 split: true,
             });
         }
@@ -90,7 +90,7 @@ impl<P: Post> LiveSeat<P> {
             return None;
         }
         Some(Accepted {
-            placed,
+            ranked,
             split: false,
         })
     }
@@ -119,30 +119,30 @@ impl<P: Post> LiveSeat<P> {
             return LikeAnswer::Refused(self.refusal(user, page));
         };
         if accepted.split {
-            if self.station.try_sliced_at(accepted.placed, page) {
+            if self.station.try_sliced_at(accepted.ranked, page) {
                 return LikeAnswer::Liked;
             }
-            return self.like_late(accepted.placed, page);
+            return self.like_late(accepted.ranked, page);
         }
-        if self.station.try_plain_at(accepted.placed, page) {
+        if self.station.try_plain_at(accepted.ranked, page) {
             return LikeAnswer::Liked;
         }
-        self.like_late(accepted.placed, page)
+        self.like_late(accepted.ranked, page)
     }
 
     // A like that is a sample, or too many. Kept out of line, so that other likes make no call.
     #[cold]
     #[inline(never)]
-    fn like_late(&mut self, placed: Placed, page: u32) -> LikeAnswer
+    fn like_late(&mut self, ranked: Ranked, page: u32) -> LikeAnswer
         requires running { IsRunning self.old.station.post.state }
-        requires accepted { IsAccepted self.old.station placed.user page placed }
-        ensures case { LikesNow self.old placed.user page result self.new }
+        requires accepted { IsAccepted self.old.station ranked.user page ranked }
+        ensures case { LikesNow self.old ranked.user page result self.new }
         ensures keeps { IsLive self.new }
     {
         if self.station.likes() >= MAX_LIKES {
             return LikeAnswer::Full;
         }
-        self.station.count_like_at(placed, page);
+        self.station.count_like_at(ranked, page);
         store(&mut self.station, &mut self.signals, page, Kind::Like);
         LikeAnswer::Liked
     }
@@ -160,7 +160,7 @@ impl<P: Post> LiveSeat<P> {
         };
         if !accepted.split {
             count_look(&mut self.station, &mut self.signals, page);
-            return LookAnswer::Seen(self.station.read_at(accepted.placed, page));
+            return LookAnswer::Seen(self.station.read_at(accepted.ranked, page));
         }
         if self.wait(user, page, tag, phase) || self.wait_late(user, page, tag, phase) {
             return LookAnswer::Waits;
@@ -174,14 +174,14 @@ impl<P: Post> LiveSeat<P> {
         requires split { RunsSplit self.old.station.post.state }
         requires own { IsOwn self.old.station (asked_in phase user page tag) }
         requires phase { phase ≡ phase_at self.old.station }
-        ensures waits { IsTrue result → PutsBy self.old (asked_in phase user page tag) self.new }
+        ensures waits { IsTrue result → Stashes self.old (asked_in phase user page tag) self.new }
         ensures none { result ≡ false → self.new ≡ self.old }
         ensures keeps { IsLive self.new }
     {
         if !self.room.take_free() {
             return false;
         }
-        self.station.put_by(Asked {
+        self.station.stash(Asked {
             tag,
             user,
             page,
@@ -190,7 +190,7 @@ impl<P: Post> LiveSeat<P> {
         true
     }
 
-    // The same where there is room, for a look that isn't free to wait. Kept out of line, so that those that are make no
+    // Stashes a look that isn't free to wait, if there is room. Kept out of line, so that those that are free make no
     // call.
     #[cold]
     #[inline(never)]
@@ -198,7 +198,7 @@ impl<P: Post> LiveSeat<P> {
         requires split { RunsSplit self.old.station.post.state }
         requires own { IsOwn self.old.station (asked_in phase user page tag) }
         requires phase { phase ≡ phase_at self.old.station }
-        ensures waits { IsTrue result → PutsBy self.old (asked_in phase user page tag) self.new }
+        ensures waits { IsTrue result → Stashes self.old (asked_in phase user page tag) self.new }
         ensures full { result ≡ false
             → length (waiting self.old) + length self.old.found ≡ room_of self.old }
         ensures none { result ≡ false → self.new ≡ self.old }
@@ -209,7 +209,7 @@ impl<P: Post> LiveSeat<P> {
         }
         self.room.take();
         self.signals.count_waiting(page);
-        self.station.put_by(Asked {
+        self.station.stash(Asked {
             tag,
             user,
             page,
@@ -237,8 +237,8 @@ impl<P: Glances> LiveSeat<P> {
             return GlanceAnswer::Refused(self.refusal(user, page));
         };
         if accepted.split {
-            return GlanceAnswer::Glimpsed(self.station.glance(accepted.placed, page));
+            return GlanceAnswer::Glimpsed(self.station.glance(accepted.ranked, page));
         }
-        GlanceAnswer::Seen(self.station.read_at(accepted.placed, page))
+        GlanceAnswer::Seen(self.station.read_at(accepted.ranked, page))
     }
 }

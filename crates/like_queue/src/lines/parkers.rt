@@ -1,11 +1,9 @@
+use crate::line::PATIENCE;
 use std::alloc::{AllocError, Global};
 use std::sync::Wait;
 use std::sync::atomic::{AtomicU64, Ordering};
 use std::thread::Parker;
 use std::time::Duration;
-
-// How many microseconds a thread waits at most until it looks again.
-const PATIENCE: u64 = 1000;
 
 /// Where the threads that make turns wait: the workers, in order, for requests or for a change of phase, and the
 /// coordinator for the workers. A thread that is woken before it waits goes on at once.

@@ -70,7 +70,7 @@ fn add_shown(
     }
 }
 
-// The same for a look.
+// Adds what a look was shown.
 fn add_seen(
     sheet: &mut Sheet,
     names: &Names,

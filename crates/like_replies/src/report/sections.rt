@@ -12,7 +12,7 @@ use like_promises::{Answer, Place, Report};
 use std::alloc::{AllocError, Global};
 
 // The most requests, users or places that a section has rows of.
-const MOST: usize = 16_384;
+const SECTION_ROWS: usize = 16_384;
 
 /// The sections of a report, with these replies in place of its own.
 pub fn report_sections<'a>(
@@ -82,7 +82,7 @@ fn push_answers<'a>(
         → OnOk result (AreSections pages (rows ++ submitter_rows pages submitter answers.now) all.new.items) }
 {
     let mut before = 0;
-    for part in answers.chunks(MOST) {
+    for part in answers.chunks(SECTION_ROWS) {
         all.push(Section::Answers {
             submitter,
             before,
@@ -101,7 +101,7 @@ fn push_users<'a>(all: &mut Vec<Section<'a>>, users: &'a [Option<u32>]) -> Resul
         → OnOk result (AreSections pages (rows ++ user_rows pages users.now) all.new.items) }
 {
     let mut before = 0;
-    for part in users.chunks(MOST) {
+    for part in users.chunks(SECTION_ROWS) {
         all.push(Section::Users { before, last: part })?;
         before += part.len() as u64;
     }
@@ -119,7 +119,7 @@ fn push_places<'a>(
         → page < length pages
         → OnOk result (AreSections pages (rows ++ page_place_rows pages page places.now) all.new.items) }
 {
-    for part in places.chunks(MOST) {
+    for part in places.chunks(SECTION_ROWS) {
         all.push(Section::Places { page, places: part })?;
     }
     Ok(())

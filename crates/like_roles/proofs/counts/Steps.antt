@@ -7,7 +7,7 @@ use Rattle.std.specs.Prelude.{option_and_then}
 use Rattle.like_core.specs.declared.page_step.PageCall.TheVariants.{Add}
 use Rattle.like_core.specs.declared.page_step.PageStep.{PageStep}
 use Rattle.like_core.specs.PageSteps.{earliest_first, page_step}
-use Rattle.like_core.specs.Post.{slices}
+use Rattle.like_core.specs.Post.{is_split_at}
 use Rattle.like_promises.specs.Asked.{asked}
 use Rattle.like_promises.specs.Store.{like}
 use Rattle.like_promises.specs.Workload.{Workload, is_split_in}
@@ -76,27 +76,27 @@ module _ (workload : Workload) where
       → plain_told workload (earliest_first v.post.did) ≡ steps_ran workload v.ran
       → e.phase ≡ phase_at v
       → asked workload e.submitter e.number ≡ Some (like user page)
-      → is_split_in workload (phase_at v) page ≡ slices v.post page
+      → is_split_in workload (phase_at v) page ≡ is_split_at v.post page
       → plain_told workload (earliest_first (counted v page old number).post.did) ≡ steps_ran workload (v.ran ++ e ∷ [])
-  counted-steps v e user page old number same now ask alike = by_test (slices v.post page) refl
+  counted-steps v e user page old number same now ask alike = by_test (is_split_at v.post page) refl
     where
       one : StepTold
       one = one_more (phase_at v) page
 
       -- the step that the entry took
-      took : (b : Bool) → slices v.post page ≡ b → step_ran workload e ≡ cond b None (Some one)
+      took : (b : Bool) → is_split_at v.post page ≡ b → step_ran workload e ≡ cond b None (Some one)
       took b is =
           ap (option_and_then (step_asked workload e)) ask
           ∙ (ap (λ k. cond {A = Option StepTold} (is_split_in workload k page) None (Some (one_more k page))) now
           ∙ ap (λ s. cond {A = Option StepTold} s None (Some one)) (alike ∙ is))
 
       -- what the steps tell then
-      tells : (b : Bool) → slices v.post page ≡ b
+      tells : (b : Bool) → is_split_at v.post page ≡ b
           → plain_told workload (earliest_first (counted v page old number).post.did)
           ≡ plain_told workload (earliest_first (cond b (sliced v page) (with_addition v page old 1 number)).post.did)
       tells b is = ap (λ t. plain_told workload (earliest_first (cond t (sliced v page) (with_addition v page old 1 number)).post.did)) is
 
-      by_test : (b : Bool) → slices v.post page ≡ b
+      by_test : (b : Bool) → is_split_at v.post page ≡ b
           → plain_told workload (earliest_first (counted v page old number).post.did) ≡ steps_ran workload (v.ran ++ e ∷ [])
       by_test true is = tells true is ∙ (same ∙ sym (steps_ran-none v.ran e (took true is)))
       by_test false is =

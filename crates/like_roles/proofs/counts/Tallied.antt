@@ -14,7 +14,7 @@ use Rattle.like_core.specs.declared.page_step.PageCall.TheVariants.{Add, Read}
 use Rattle.like_core.specs.declared.page_step.PageStep.{PageStep}
 use Rattle.like_core.specs.Additions.{added_in, added_to}
 use Rattle.like_core.specs.PageSteps.{additions_among, earliest_first, likes_of, page_step}
-use Rattle.like_core.specs.Post.{additions_of, additions_in, number_of, pages_of, slices}
+use Rattle.like_core.specs.Post.{additions_of, additions_in, number_of, pages_of, is_split_at}
 use Rattle.like_core.proofs.core.Labels.{added_to-push, added_in-push}
 use Rattle.like_tables.specs.UserTable.{last_of}
 use Rattle.like_tables.specs.declared.held.Held.{Held}
@@ -62,7 +62,7 @@ likes_among-append workload page xs ys =
     ap (page_likes page) (filter_map-append (λ (e : Ran). asked workload e.submitter e.number) xs ys)
     ∙ sum_by-append (λ x. cond (is_like_of page x) 1 0) (asks workload xs) (asks workload ys)
 
--- what a held request asks of the worker is what it asks by the workload
+-- what a stashed request asks of the worker is what it asks by the workload
 pub asked-served : (workload : Workload) (v : WorkerView) (h : Held)
     → IsServed workload v
     → IsAsked workload h
@@ -262,7 +262,7 @@ one_like : (workload : Workload) (v : WorkerView) (h : Held) (stashed : Bool) (u
     → asked workload h.submitter h.ask.number ≡ Some (like user page)
     → page < pages_of v.post
     → user < v.last.share.users
-    → is_split_in workload (phase_at v) page ≡ slices v.post page
+    → is_split_in workload (phase_at v) page ≡ is_split_at v.post page
     → IsAfter workload v h stashed reply.Liked (liked v user page old number)
 one_like workload v h stashed user page old number served sized t ask in_pages in_users alike =
     let e = ran_now v h stashed reply.Liked in
@@ -312,14 +312,14 @@ one_like workload v h stashed user page old number served sized t ask in_pages i
       },
     )
 
--- the slice has nothing of a page that is not sliced
+-- the slice has nothing of a page that is not split
 clear : (v : WorkerView) (page : ℕ)
     → IsSliceInSplit v.post v.slice
-    → slices v.post page ≡ false
+    → is_split_at v.post page ≡ false
     → get_or v.slice page 0 ≡ 0
-clear v page kept unsliced = elim (cases_eq (get_or v.slice page 0) 0) [
+clear v page kept unsplit = elim (cases_eq (get_or v.slice page 0) 0) [
   | inl none ↦ none
-  | inr some ↦ let is = (kept page some).1 in absurd (cc (is, unsliced))
+  | inr some ↦ let is = (kept page some).1 in absurd (cc (is, unsplit))
 ]
 
 -- whatever the answer is
@@ -330,8 +330,8 @@ pub GivesReply-tallied : (workload : Workload) (v : WorkerView) (h : Held) (stas
     → IsTallied workload v
     → IsAsked workload h
     → IsSliceInSplit v.post v.slice
-    → ((page : ℕ) → is_split_in workload (phase_at v) page ≡ slices v.post page)
-    → ((user page : ℕ) → asked_in v.last.share h.submitter h.ask.request ≡ look user page → slices v.post page ≡ false)
+    → ((page : ℕ) → is_split_in workload (phase_at v) page ≡ is_split_at v.post page)
+    → ((user page : ℕ) → asked_in v.last.share h.submitter h.ask.request ≡ look user page → is_split_at v.post page ≡ false)
     → GivesReply v h.submitter h.ask.request answer w → IsAfter workload v h stashed answer w
 GivesReply-tallied workload v h stashed answer w served sized t given kept alike plain (refuses why is a e) =
     let x = ran_now v h stashed (reply.Refused why) in
@@ -358,11 +358,11 @@ GivesReply-tallied workload v h stashed answer w served sized t given kept alike
     let ask = asked-served workload v h served given ∙ ap Some is in
     let right = right-by_ask workload v.ran x (look user page) ask (ap (λ last. reply.Seen last 0) (sym (t.last user))) in
     let now : ℕ = phase_at v in
-    let unsliced = plain user page is in
+    let unsplit = plain user page is in
     let step : PageStep = page_step v.post.worker now page count Read in
     let took : step_ran workload x ≡ Some (step_told step) = ap (option_and_then (step_asked workload x)) ask in
     let steps : plain_told workload (earliest_first v.post.did ++ step ∷ []) ≡ steps_ran workload (v.ran ++ x ∷ []) =
-    plain_told-push workload (earliest_first v.post.did) step (alike page ∙ unsliced)
+    plain_told-push workload (earliest_first v.post.did) step (alike page ∙ unsplit)
     ∙ (ap (λ xs. xs ++ step_told step ∷ []) t.steps ∙ sym (steps_ran-push workload v.ran x (step_told step) took))
     in
     let P : Reply → Type 0 = λ y. IsAfter workload v h stashed y (shown v page count (number_of w.post)) in
@@ -371,4 +371,4 @@ GivesReply-tallied workload v h stashed answer w served sized t given kept alike
     (unchanged workload v h stashed seen (step ∷ v.post.did) (look user page) refl served sized t ask (λ other. refl)
     refl right steps
     (All-cons (λ q. likes_of q.call ≡ 0 → is_split_in workload q.phase q.page ≡ false) step v.post.did
-    (λ _. alike page ∙ unsliced) t.reads)))
+    (λ _. alike page ∙ unsplit) t.reads)))

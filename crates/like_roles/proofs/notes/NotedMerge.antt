@@ -11,7 +11,7 @@ use Rattle.like_core.specs.declared.view.Addition.{Addition}
 use Rattle.like_core.specs.declared.page_step.PageStep.{PageStep}
 use Rattle.like_core.specs.declared.worker_state.WorkerState.TheVariants as state
 use Rattle.like_core.specs.Additions.{added_in}
-use Rattle.like_core.specs.Post.{additions_in, pages_of, slices}
+use Rattle.like_core.specs.Post.{additions_in, is_split_at, pages_of}
 use Rattle.like_core.proofs.core.Labels.{one_before-next}
 use Rattle.like_core.specs.PageSteps.{additions_among, step_adding, stretches_of, then_steps}
 use Rattle.like_core.proofs.Steps.{then-additions, then-stretches}
@@ -154,7 +154,7 @@ merges-some v adds merges i d inside = (merges-each v adds merges i d inside).2
 pub merges-split : (workload : Workload) (v : WorkerView) (adds : List Addition)
     → Merges (phase_at v) v.slice (pages_of v.post) adds
     → IsSliceInSplit v.post v.slice
-    → ((page : ℕ) → is_split_in workload (phase_at v) page ≡ slices v.post page)
+    → ((page : ℕ) → is_split_in workload (phase_at v) page ≡ is_split_at v.post page)
     → All (λ a. is_split_in workload a.phase a.page ≡ true) adds
 merges-split workload v adds merges kept alike =
     λ i d inside.
@@ -172,7 +172,7 @@ pub merge-noted : (workload : Workload) (v : WorkerView) (adds : List Addition)
     → IsUnmerged workload v.adds (state.Runs (phase_at v))
     → All (λ e. e.phase ≤ phase_at v) v.ran
     → IsSliceInSplit v.post v.slice
-    → ((page : ℕ) → is_split_in workload (phase_at v) page ≡ slices v.post page)
+    → ((page : ℕ) → is_split_in workload (phase_at v) page ≡ is_split_at v.post page)
     → IsNoted workload (then_steps v.post.did (map (step_adding v.post.worker) adds)) (v.adds ++ noted v adds) v.ran
     × IsUnmerged workload (v.adds ++ noted v adds) (state.Answered (phase_at v))
 merge-noted workload v adds merges t notes was un within kept alike =

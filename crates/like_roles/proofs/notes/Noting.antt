@@ -13,7 +13,7 @@ use Rattle.like_core.specs.declared.page_step.PageStep.{PageStep}
 use Rattle.like_core.specs.declared.worker_state.WorkerState.{WorkerState}
 use Rattle.like_core.specs.declared.worker_state.WorkerState.TheVariants as state
 use Rattle.like_core.specs.WorkerState.{RunsSome, phase_of, seen}
-use Rattle.like_core.specs.Post.{number_of, slices}
+use Rattle.like_core.specs.Post.{is_split_at, number_of}
 use Rattle.like_core.specs.PageSteps.{additions_among, page_step, stretch_of, stretches_of}
 use Rattle.like_core.proofs.Steps.{stretches-push}
 use Rattle.like_tables.specs.declared.held.Held.{Held}
@@ -113,9 +113,9 @@ one_like : (workload : Workload) (v : WorkerView) (e : Ran) (page old number use
     → IsUnmerged workload v.adds (state.Runs (phase_at v))
     → e.phase ≡ phase_at v
     → asked workload e.submitter e.number ≡ Some (like user page)
-    → is_split_in workload (phase_at v) page ≡ slices v.post page
+    → is_split_in workload (phase_at v) page ≡ is_split_at v.post page
     → IsNotedNow workload (phase_at v) (counted v page old number) (v.ran ++ e ∷ [])
-one_like workload v e page old number user notes was un now ask alike = by_test (slices v.post page) refl
+one_like workload v e page old number user notes was un now ask alike = by_test (is_split_at v.post page) refl
   where
     k : ℕ
     k = phase_at v
@@ -217,7 +217,7 @@ one_like workload v e page old number user notes was un now ask alike = by_test 
         one_of Q a q zero d inside = q
         one_of Q a q (suc i) d inside = absurd (omega arith)
 
-    by_test : (b : Bool) → slices v.post page ≡ b → P (counted v page old number)
+    by_test : (b : Bool) → is_split_at v.post page ≡ b → P (counted v page old number)
     by_test true e' =
         subst (λ (b : Bool). P (cond b (sliced v page) (with_addition v page old 1 number))) (sym e') (in_slice (alike ∙ e'))
     by_test false e' =
@@ -231,7 +231,7 @@ pub GivesReply-noted : (workload : Workload) (v : WorkerView) (h : Held) (stashe
     → IsNoted workload v.post.did v.adds v.ran
     → IsUnmerged workload v.adds (state.Runs (phase_at v))
     → IsAsked workload h
-    → ((page : ℕ) → is_split_in workload (phase_at v) page ≡ slices v.post page)
+    → ((page : ℕ) → is_split_in workload (phase_at v) page ≡ is_split_at v.post page)
     → GivesReply v h.submitter h.ask.request answer w
     → IsNotedNow workload (phase_at v) w (v.ran ++ ran_now v h stashed answer ∷ [])
 GivesReply-noted workload v h stashed answer w served notes was un given alike (refuses why is a e) =

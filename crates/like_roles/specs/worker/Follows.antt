@@ -46,7 +46,7 @@ pub record AreServed (workload : Workload) (z : Opening) (masks : List PhaseMask
   pub run : z.limits ≡ run_limits
 
 abbrev pub IsServed : Workload → WorkerView → Type 0
-IsServed workload v = AreServed workload v.post.opening v.post.masks v.last.share v.held.capacity
+IsServed workload v = AreServed workload v.post.opening v.post.masks v.last.share v.stash.capacity
 
 -- there is a number for each of so many pages, and a last like for each user
 pub record AreSized (pages : ℕ) (numbers : List ℕ) (table : UserTable) : Type 0 where
@@ -113,24 +113,24 @@ IsUnmerged workload adds (Runs phase) =
 IsUnmerged workload adds (Answered phase) = All (λ a. a.phase ≤ phase) adds
 IsUnmerged workload adds Gone = ⊤
 
--- a request that is held is the one in its submitter's plan, and its page exists
+-- a stashed request is the one in its submitter's plan, and its page exists
 pub record IsAsked (workload : Workload) (h : Held) : Type 0 where
   pub asked : request_at workload h.submitter h.ask.number ≡ Some h.ask.request
   pub there : IsThere (length (marks_of workload.pages)) h.ask.request.page
 
--- a request that is held, as it runs in a phase
-abbrev pub entry_held : ℕ → Held → Entry
-entry_held phase h =
+-- a stashed request, as it runs in a phase
+abbrev pub entry_stashed : ℕ → Held → Entry
+entry_stashed phase h =
     record { phase = phase; submitter = h.submitter; number = h.ask.number; stashed = true }
 
--- the joined phase in which what is held runs: the present one or the next
+-- the joined phase in which what is stashed runs: the present one or the next
 abbrev pub next_joined : WorkerView → ℕ
 next_joined v = phase_at v + phase_at v % 2
 
 -- order: what it ran, and then what it holds, is the run order of what it took
 abbrev pub IsInOrder : Workload → WorkerView → Type 0
 IsInOrder workload v =
-    map entry_of v.ran ++ map (entry_held (next_joined v)) v.held.held ≡ order workload v.taken
+    map entry_of v.ran ++ map (entry_stashed (next_joined v)) v.stash.looks ≡ order workload v.taken
 
 -- nothing was taken and nothing run in a later phase than this
 abbrev pub HasNothingLater : List Took → List Ran → ℕ → Type 0
@@ -139,12 +139,12 @@ HasNothingLater taken ran phase = All (λ t. t.phase ≤ phase) taken × All (λ
 -- what its state says of what a worker took, ran and holds, and of which submitters have ended: nothing is of a later phase;
 -- when it has answered a joined phase it holds nothing; and when it is gone it holds nothing, and its submitters have ended
 abbrev pub StandsIn : List Took → List Ran → List Held → List Bool → WorkerState → Type 0
-StandsIn taken ran held ended (Runs phase) = HasNothingLater taken ran phase
-StandsIn taken ran held ended (Answered phase) = HasNothingLater taken ran phase × (IsJoined phase → held ≡ [])
-StandsIn taken ran held ended Gone = (held ≡ []) × TookAllEnds ended
+StandsIn taken ran stashed ended (Runs phase) = HasNothingLater taken ran phase
+StandsIn taken ran stashed ended (Answered phase) = HasNothingLater taken ran phase × (IsJoined phase → stashed ≡ [])
+StandsIn taken ran stashed ended Gone = (stashed ≡ []) × TookAllEnds ended
 
 abbrev pub Stands : WorkerView → WorkerState → Type 0
-Stands v state = StandsIn v.taken v.ran v.held.held v.ended state
+Stands v state = StandsIn v.taken v.ran v.stash.looks v.ended state
 
 -- in no phase do more come out of the stash than it has room for
 abbrev pub FitsStash : Workload → List Took → Type 0
@@ -160,16 +160,16 @@ pub record Follows (workload : Workload) (v : WorkerView) : Type 0 where
   pub unmerged : v.notes ≡ true → IsUnmerged workload v.adds v.post.state
   pub in_order : IsInOrder workload v
   pub fits : FitsStash workload v.taken
-  pub held : All (IsAsked workload) v.held.held
+  pub stashed : All (IsAsked workload) v.stash.looks
   pub stands : Stands v v.post.state
-  pub trying : (place : ℕ) → v.pending ≡ Some place
-      → IsRunning v.post.state × (RunsJoined v.post.state → v.held.held ≡ [])
+  pub trying : (rank : ℕ) → v.pending ≡ Some rank
+      → IsRunning v.post.state × (RunsJoined v.post.state → v.stash.looks ≡ [])
 
 -- what is given is asked by the plan of the submitter that is tried
 abbrev pub IsAskedBy : Workload → WorkerView → Taken → Type 0
 IsAskedBy workload v (taken.Ask ask) =
-    (place : ℕ) → v.pending ≡ Some place
-    → request_at workload (submitter_at v place) ask.number ≡ Some ask.request
+    (rank : ℕ) → v.pending ≡ Some rank
+    → request_at workload (submitter_at v rank) ask.number ≡ Some ask.request
 IsAskedBy workload v taken.End = ⊤
 IsAskedBy workload v taken.Nothing = ⊤
 

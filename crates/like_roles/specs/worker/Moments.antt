@@ -9,13 +9,13 @@ use Rattle.like_core.specs.core.Reachable.{Reachable}
 use Rattle.like_core.specs.views.Shows.{Moment}
 use Rattle.like_seat.specs.Moments.{IsPostAt}
 use Rattle.like_seat.specs.StationView.{IsSliceInSplit, IsStation}
-use Rattle.like_roles.specs.worker.WorkerView.{WorkerView, seat_of}
+use Rattle.like_roles.specs.worker.WorkerView.{WorkerView, station_of}
 
 -- at a moment worker i has this many likes of a page in its slice
 pub record HoldsAt (z : Opening) (m : Moment z) (i page likes : ℕ) : Type 0 where
   pub of : WorkerView
   pub at : IsPostAt z m of.post
-  pub station : IsStation (seat_of of)
+  pub station : IsStation (station_of of)
   pub worker : of.post.worker ≡ i
   pub slice : slice_index of.slice page ≡ likes
 

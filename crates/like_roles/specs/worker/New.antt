@@ -36,7 +36,7 @@ AreNewSeats board pages seats =
 -- a worker of a run on these terms that has done nothing yet
 pub record IsNew (s : Setup) (terms : Terms) (worker : ℕ) (post : WorkerSeatView) (v : WorkerView) : Type 0 where
   pub at_post : v.post ≡ post
-  pub held : v.held ≡ record { held = []; capacity = s.stash }
+  pub stash : v.stash ≡ record { looks = []; capacity = s.stash }
   pub slice : v.slice ≡ replicate (length s.pages) 0
   pub sliced : v.sliced ≡ []
   pub left : v.left ≡ dealt s.workers worker terms.sizes.now

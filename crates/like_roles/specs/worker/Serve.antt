@@ -3,7 +3,7 @@ use Rattle.std.specs.Prelude.{◌≡◌, ℕ, ◌≤◌, Bool, if◌then◌else�
 use Rattle.like_requests.specs.declared.request.Request.{Request}
 use Rattle.like_requests.specs.declared.verdict.Verdict.{Verdict}
 use Rattle.like_core.specs.declared.view.Addition.{Addition}
-use Rattle.like_core.specs.Post.{has_read, additions_of, number_of, slices}
+use Rattle.like_core.specs.Post.{has_read, additions_of, number_of, is_split_at}
 use Rattle.like_tables.specs.UserTable.{last_of, with_last}
 use Rattle.like_tables.specs.declared.held.Held.{Held}
 use Rattle.like_seat.specs.Steps as steps
@@ -12,7 +12,7 @@ use Rattle.like_promises.specs.declared.log.Ran.{Ran}
 use Rattle.like_promises.specs.declared.reply.Reply.{Reply}
 use Rattle.like_promises.specs.declared.reply.Reply.TheVariants.{Liked, Seen, Refused}
 use Rattle.like_promises.specs.Store.{like, look, refuse}
-use Rattle.like_roles.specs.worker.WorkerView.{WorkerView, asked_in, phase_at, seat_of, with_seat}
+use Rattle.like_roles.specs.worker.WorkerView.{WorkerView, asked_in, phase_at, station_of, with_station}
 
 -- an addition as it is noted when `at` entries had run
 abbrev pub noted_at : ℕ → Addition → Added
@@ -40,17 +40,17 @@ noting v page old n = record v {
 -- n is added to a page's count on the board, which was this before, with this number, and noted
 abbrev pub with_addition : WorkerView → ℕ → ℕ → ℕ → ℕ → WorkerView
 with_addition v page old n number =
-    noting (with_seat v (steps.with_addition (seat_of v) page old n number)) page old n
+    noting (with_station v (steps.with_addition (station_of v) page old n number)) page old n
 
 -- one more like of a page in the slice
 abbrev pub sliced : WorkerView → ℕ → WorkerView
-sliced v page = with_seat v (steps.sliced (seat_of v) page)
+sliced v page = with_station v (steps.sliced (station_of v) page)
 
--- one more like of a page: in the slice, where the page is sliced, else on the board, where its count was this, with this
--- number
+-- one more like of a page: in the slice, where the page is split, else on the board, where its count was this, with
+-- this number
 abbrev pub counted : WorkerView → ℕ → ℕ → ℕ → WorkerView
 counted v page old number =
-    if slices v.post page then sliced v page else with_addition v page old 1 number
+    if is_split_at v.post page then sliced v page else with_addition v page old 1 number
 
 -- a user's like of a page is counted, and is the user's last like
 abbrev pub liked : WorkerView → ℕ → ℕ → ℕ → ℕ → WorkerView

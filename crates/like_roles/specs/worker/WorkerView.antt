@@ -6,26 +6,26 @@ use Rattle.like_promises.specs.Asked.{asked_by}
 use Rattle.like_promises.specs.Order.{must_wait}
 use Rattle.like_promises.specs.Store.{Ask}
 use Rattle.like_core.specs.WorkerState.{phase_of}
-use Rattle.like_core.specs.Post.{slices}
+use Rattle.like_core.specs.Post.{is_split_at}
 use Rattle.like_core.specs.declared.view.WorkerSeatView.{WorkerSeatView}
 use Rattle.like_seat.specs.StationView.{StationView}
 use Rattle.like_seat.specs.SlicedLike.{SlicedLike}
 use Rattle.like_tables.specs.Share.{Share, submitter_of}
 use Rattle.like_tables.specs.declared.held.Held.{Held}
 use Rattle.like_tables.specs.UserTable.{UserTable}
-use Rattle.like_tables.specs.Waiting.{Waiting}
+use Rattle.like_tables.specs.StashView.{StashView}
 use Rattle.like_promises.specs.declared.log.Added.{Added}
 use Rattle.like_promises.specs.declared.log.Ran.{Ran}
 use Rattle.like_promises.specs.declared.log.Took.{Took}
 
--- its post; the looks that it holds, which are its stash in a split phase and its backlog in a joined one; its slice, a
--- number for each page; all likes that ever went into its slice, in order; for each of its submitters by place, how many
--- requests of it were not taken yet and whether its end mark was taken; the place at which it looks for a submitter next;
--- the place of the submitter that it tries, if it tries one; the last likes of its users; what it took and what it ran;
--- whether it notes its additions, and those that it noted
+-- its post; its stash, which is its backlog in a joined phase; its slice, a
+-- number for each page; all likes that ever went into its slice, in order; for each of its submitters by rank, how many
+-- requests of it were not taken yet and whether its end mark was taken; the rank at which it looks for a submitter
+-- next; the rank of the submitter that it tries, if it tries one; the last likes of its users; what it took and what it
+-- ran; whether it notes its additions, and those that it noted
 pub record WorkerView : Type 0 where
   pub post : WorkerSeatView
-  pub held : Waiting Held
+  pub stash : StashView Held
   pub slice : List ℕ
   pub sliced : List SlicedLike
   pub left : List ℕ
@@ -38,36 +38,36 @@ pub record WorkerView : Type 0 where
   pub notes : Bool
   pub adds : List Added
 
--- the seat of a worker, whichever board it is at
-abbrev pub seat_of : WorkerView → StationView Held
-seat_of v = record { board = []; post = v.post; held = v.held; slice = v.slice; sliced = v.sliced; last = v.last }
+-- the station of a worker, whichever board it is at
+abbrev pub station_of : WorkerView → StationView Held
+station_of v = record { board = []; post = v.post; stash = v.stash; slice = v.slice; sliced = v.sliced; last = v.last }
 
--- with its seat like this, and all else the same
-abbrev pub with_seat : WorkerView → StationView Held → WorkerView
-with_seat v s = record v { post = s.post; held = s.held; slice = s.slice; sliced = s.sliced; last = s.last }
+-- with its station like this, and all else the same
+abbrev pub with_station : WorkerView → StationView Held → WorkerView
+with_station v s = record v { post = s.post; stash = s.stash; slice = s.slice; sliced = s.sliced; last = s.last }
 
 -- the phase that it runs or has answered
 abbrev pub phase_at : WorkerView → ℕ
 phase_at v = phase_of v.post.state
 
--- the submitter at a place: w, w + N, w + 2 N, .. for worker w of N
+-- the submitter at a rank: w, w + N, w + 2 N, .. for worker w of N
 abbrev pub submitter_at : WorkerView → ℕ → ℕ
-submitter_at v place = submitter_of v.last.share.workers v.last.share.worker place
+submitter_at v rank = submitter_of v.last.share.workers v.last.share.worker rank
 
 -- it took the end mark of each of its submitters
 abbrev pub TookAllEnds : List Bool → Type 0
-TookAllEnds ended = (place : ℕ) → place < length ended → slice_index_or ended place true ≡ true
+TookAllEnds ended = (rank : ℕ) → rank < length ended → slice_index_or ended rank true ≡ true
 
--- how many steps there are from one place to another of n, going up, and from the last place on to the first
+-- how many steps there are from one rank to another of n, going up, and from the last rank on to the first
 abbrev pub steps_between : ℕ → ℕ → ℕ → ℕ
 steps_between n from to = if nat_le from to then to - from else to + n - from
 
--- the place is the first at or after the cursor, in cyclic order, whose submitter's end mark was not taken
-pub record IsNextPlace (ended : List Bool) (cursor place : ℕ) : Type 0 where
-  pub there : place < length ended
-  pub not_ended : slice_index_or ended place true ≡ false
+-- the rank is the first at or after the cursor, in cyclic order, whose submitter's end mark was not taken
+pub record IsNextOpen (ended : List Bool) (cursor rank : ℕ) : Type 0 where
+  pub there : rank < length ended
+  pub not_ended : slice_index_or ended rank true ≡ false
   pub first : (other : ℕ) → other < length ended
-      → steps_between (length ended) cursor other < steps_between (length ended) cursor place
+      → steps_between (length ended) cursor other < steps_between (length ended) cursor rank
       → slice_index_or ended other true ≡ true
 
 -- what a submitter's request asks of a worker with these users
@@ -77,7 +77,7 @@ asked_in users submitter r =
 
 -- whether a request of a submitter has to wait for the next joined phase, of a worker at this post with these users
 abbrev pub waits_at : WorkerSeatView → Share → ℕ → Request → Bool
-waits_at post users submitter r = must_wait (slices post) (asked_in users submitter r)
+waits_at post users submitter r = must_wait (is_split_at post) (asked_in users submitter r)
 
 abbrev pub has_to_wait : WorkerView → ℕ → Request → Bool
 has_to_wait v submitter r = waits_at v.post v.last.share submitter r

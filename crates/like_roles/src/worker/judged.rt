@@ -44,7 +44,7 @@ impl Judged {
             → result ≡ waits_at post tables.now.last.share held.now.submitter held.now.ask.request }
     {
         match *self {
-            Judged::Look { page, .. } => tables.is_sliced(page),
+            Judged::Look { page, .. } => tables.is_split(page),
             _ => false,
         }
     }

@@ -17,7 +17,7 @@ mod turns;
 
 use crate::terms::Terms;
 use crate::turn::Turn;
-use crate::worker::desk::Desk;
+use crate::worker::ledger::Ledger;
 use like_core::Post;
 use like_promises::WorkerLog;
 use like_requests::{Gate, Setup, Taken};
@@ -33,7 +33,7 @@ pub(crate) type RunTables = Tables<Held, Slice>;
 #[derive(Drop)]
 pub struct Work {
     pub(crate) tables: RunTables,
-    pub(crate) desk: Desk,
+    pub(crate) ledger: Ledger,
 }
 
 impl Work {
@@ -62,9 +62,9 @@ impl Work {
             setup.workers,
             worker,
         )?;
-        let desk = Desk::new(alloc, setup, terms, worker)?;
+        let ledger = Ledger::new(alloc, setup, terms, worker)?;
         let tables = Tables::of_run(alloc, marks, setup.stash, last)?;
-        Ok(Work { tables, desk })
+        Ok(Work { tables, ledger })
     }
 
     /// Makes the next turn, at its post. After `Try` it is completed by `give`.
@@ -84,13 +84,13 @@ impl Work {
         self.next_turn(post, gate)
     }
 
-    /// After `Try`, the place of the submitter that it tries.
+    /// After `Try`, the rank of the submitter that it tries.
     pub fn tried(&self) -> usize
-        requires { IsSome self.now.desk.pending }
-        ensures { self.now.desk.pending ≡ Some result }
+        requires { IsSome self.now.ledger.pending }
+        ensures { self.now.ledger.pending ≡ Some result }
     {
-        match self.desk.pending {
-            Some(place) => place,
+        match self.ledger.pending {
+            Some(rank) => rank,
             None => unreachable!(),
         }
     }
@@ -98,7 +98,7 @@ impl Work {
     /// Completes a turn that answered `Try`, by what was taken from that submitter.
     pub fn give<P: Post, G: Gate>(&mut self, post: &mut P, gate: &G, taken: Taken) -> Turn
         requires ready { IsReady (P.view post.old) self.old }
-        requires tries { IsSome self.old.desk.pending }
+        requires tries { IsSome self.old.ledger.pending }
         requires next { CanGive (worker_at (P.view post.old) self.old) taken }
         ensures ready { IsReady (P.view post.new) self.new }
         ensures board { P.board post.new ≡ P.board post.old }
@@ -115,18 +115,18 @@ impl Work {
 
     /// What a worker that is gone has done.
     pub fn finish(self) -> WorkerLog
-        ensures taken { result.taken.items ≡ self.desk.taken.items }
-        ensures ran { result.ran.items ≡ self.desk.ran.items }
-        ensures adds { result.adds.items ≡ self.desk.adds.items }
+        ensures taken { result.taken.items ≡ self.ledger.taken.items }
+        ensures ran { result.ran.items ≡ self.ledger.ran.items }
+        ensures adds { result.adds.items ≡ self.ledger.adds.items }
         ensures last { result.last ≡ self.tables.last }
     {
-        let Work { tables, desk } = self;
-        let Desk {
+        let Work { tables, ledger } = self;
+        let Ledger {
             taken,
             ran,
             adds,
             ..
-        } = desk;
+        } = ledger;
         WorkerLog {
             taken,
             ran,

@@ -13,12 +13,12 @@ impl<P: Post, W: Copy, C: Counts> Station<P, W, C> {
     #[inline(always)]
     pub fn runs(&self) -> bool
         ensures runs { IsTrue result ↔ IsRunning self.now.post.state }
-        ensures seat { IsStation self.now }
+        ensures station { IsStation self.now }
     {
         matches!(self.tables.state, WorkerState::Runs(_))
     }
 
-    /// Looks at the phase word, for a seat that runs a phase. It stays in that phase, and doesn't wait.
+    /// Looks at the phase word, for a station that runs a phase. It stays in that phase, and doesn't wait.
     #[inline(always)]
     pub fn look_on(&mut self) -> Sight
         requires running { IsRunning self.old.post.state }
@@ -36,7 +36,7 @@ impl<P: Post, W: Copy, C: Counts> Station<P, W, C> {
         requires runs { RunsJoined self.old.post.state }
         requires ending { SawEnding self.old.post.last }
         ensures stops { self.new ≡ record self.old { post = answered self.old.post } }
-        ensures seat { IsStation self.new }
+        ensures station { IsStation self.new }
     {
         self.tables.acknowledge(&mut self.post);
     }
@@ -45,7 +45,7 @@ impl<P: Post, W: Copy, C: Counts> Station<P, W, C> {
     pub fn retire(&mut self)
         requires { RunsJoined self.old.post.state }
         ensures ends { self.new ≡ record self.old { post = retired self.old.post } }
-        ensures seat { IsStation self.new }
+        ensures station { IsStation self.new }
     {
         self.tables.retire(&mut self.post);
     }

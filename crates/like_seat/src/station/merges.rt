@@ -19,7 +19,7 @@ impl<P: Post, W: Copy, C: Counts> Station<P, W, C> {
         requires ending { SawEnding self.old.post.last }
         requires within { from ≤ buckets }
         ensures merges { MergesNext self.old from result self.new }
-        ensures seat { IsStation self.new }
+        ensures station { IsStation self.new }
     {
         self.tables.merge_next(&mut self.post, from)
     }
@@ -39,7 +39,7 @@ impl<P: Post, W: Copy, C: Counts> Station<P, W, C> {
         ensures empty { AreUnliked self.new.slice 0 (length self.new.slice) }
         ensures likes { likes_of self.new ≡ likes_of self.old }
         ensures tallies { (page : ℕ) → tally_of self.new page ≡ tally_of self.old page }
-        ensures seat { IsStation self.new }
+        ensures station { IsStation self.new }
     {
         let mut from = 0;
         while let Some(merged) = self.merge_next(from) {
@@ -57,7 +57,7 @@ impl<P: Post, W: Copy, C: Counts> Station<P, W, C> {
         ensures empty { AreUnliked self.new.slice 0 (length self.new.slice) }
         ensures likes { likes_of self.new ≡ likes_of self.old }
         ensures tallies { (page : ℕ) → tally_of self.new page ≡ tally_of self.old page }
-        ensures seat { IsStation self.new }
+        ensures station { IsStation self.new }
     {
         self.merge();
         self.report();
@@ -69,7 +69,7 @@ impl<P: Post, W: Copy, C: Counts> Station<P, W, C> {
         requires ending { SawEnding self.old.post.last }
         requires merged { AreUnliked self.old.slice 0 (length self.old.slice) }
         ensures stops { self.new ≡ record self.old { post = answered self.old.post } }
-        ensures seat { IsStation self.new }
+        ensures station { IsStation self.new }
     {
         self.tables.report(&mut self.post);
     }

@@ -1,4 +1,4 @@
-//! What a seat of a service has in place of one of a run.
+//! What a station of a service has in place of one of a run.
 ghost use Rattle.std.specs.Prelude.{◌≡◌, ◌≢◌, ◌^◌, ◌≤◌, false, true, IfErr, IfNone, IfOk, IfSome, IsTrue};
 ghost use Rattle.like_core.specs.declared.worker_state.WorkerState.TheVariants.{Gone};
 ghost use Rattle.like_core.specs.OpeningLimits.{AreLimits, has_slots};
@@ -16,7 +16,7 @@ use like_tables::{BucketCounts, Counts, Users};
 use std::alloc::Global;
 
 impl<P: Post, W: Copy> Station<P, W, BucketCounts> {
-    /// A seat of a service that has done nothing yet, at a board with this factor for buckets.
+    /// A station of a service that has done nothing yet, at a board with this factor for buckets.
     pub fn of_service(
         alloc: Global,
         post: P,
@@ -61,7 +61,7 @@ impl<P: SlotPost, W: Copy, C: Counts> Station<P, W, C> {
     }
 }
 
-/// How often a seat tries to come back, where others change the phase word meanwhile.
+/// How often a station tries to come back, where others change the phase word meanwhile.
 const TRIES: u32 = 64;
 
 /// Brings a worker back, and tells the phase that it then runs. `None`, with nothing done, if none of 64 tries did.
@@ -82,7 +82,7 @@ pub fn come_back<P: Returns>(post: &mut P) -> Option<u64>
 }
 
 impl<P: SlotPost + Returns, W: Copy, C: Counts> Station<P, W, C> {
-    /// Brings a seat that is gone back into the present phase, which it then runs, a split one with its slots read.
+    /// Brings a station that is gone back into the present phase, which it then runs, a split one with its slots read.
     /// `false`, with nothing done, if that phase is ending or others changed the phase word at each of 64 tries.
     pub fn come_back(&mut self) -> bool
         requires gone { self.old.post.state ≡ Gone }
@@ -90,7 +90,7 @@ impl<P: SlotPost + Returns, W: Copy, C: Counts> Station<P, W, C> {
         requires lets { LetsReturn self.old.post.opening.limits }
         ensures back { IsTrue result → ComesBack self.old self.new }
         ensures none { result ≡ false → self.new ≡ self.old }
-        ensures seat { IsStation self.new }
+        ensures station { IsStation self.new }
     {
         let Some(phase) = come_back(&mut self.post) else {
             return false;

@@ -6,33 +6,33 @@ use crate::tables::Tables;
 use like_tables::Counts;
 
 impl<W: Copy, C: Counts> Tables<W, C> {
-    /// Puts one by until the next joined phase, behind all others that wait.
-    pub fn put_by(&mut self, waiting: W)
-        requires { length self.old.held.held < self.old.held.capacity }
+    /// Stashes one until the next joined phase, behind all others that wait.
+    pub fn stash(&mut self, look: W)
+        requires { length self.old.stash.looks < self.old.stash.capacity }
         ensures holds { self.new ≡ record self.old {
-          held = record self.old.held { held = self.old.held.held ++ waiting ∷ [] };
+          stash = record self.old.stash { looks = self.old.stash.looks ++ look ∷ [] };
         } }
         ensures kept { (post : WorkerSeatView) → IsKept post self.old → IsKept post self.new }
     {
-        self.held.push(waiting);
+        self.stash.push(look);
     }
 
     /// Takes out the first that waits, if one does.
     #[inline(always)]
-    pub fn next_held(&mut self) -> Option<W>
-        ensures first { result ≡ slice_get self.old.held.held 0 }
+    pub fn next_stashed(&mut self) -> Option<W>
+        ensures first { result ≡ slice_get self.old.stash.looks 0 }
         ensures rest { self.new ≡ record self.old {
-          held = record self.old.held { held = drop 1 self.old.held.held };
+          stash = record self.old.stash { looks = drop 1 self.old.stash.looks };
         } }
         ensures kept { (post : WorkerSeatView) → IsKept post self.old → IsKept post self.new }
     {
-        self.held.pop_front()
+        self.stash.pop_front()
     }
 
     /// Whether as many wait as there is room for.
     pub fn is_full(&self) -> bool
-        ensures { IsTrue result ↔ (length self.now.held.held ≡ self.now.held.capacity) }
+        ensures { IsTrue result ↔ (length self.now.stash.looks ≡ self.now.stash.capacity) }
     {
-        self.held.is_full()
+        self.stash.is_full()
     }
 }

@@ -136,7 +136,7 @@ fn written(
     out
 }
 
-// The same of this many likes.
+// Stops the test unless this is written of a report of so many likes.
 fn assert_written(
     rt: &(impl Abort + Threads + Sync),
     alloc: Global,

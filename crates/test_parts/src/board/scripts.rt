@@ -186,7 +186,7 @@ macro_rules! past_joined {
     };
 }
 
-// The same from a split phase, after which no mask is published.
+// A worker goes on from a split phase to the next, and no mask is published.
 macro_rules! past_split {
     ($phase:literal, $next:literal) => {
         &[

@@ -4,7 +4,7 @@ ghost use Rattle.like_limits.specs.Limits.{hot_pages};
 ghost use Rattle.like_core.specs.Phase.{is_marked};
 ghost use Rattle.like_core.specs.WorkerState.{RunsJoined, SawEnding, phase_of, seen};
 ghost use Rattle.like_core.specs.Post.{IsFresh, MayAdd, pages_of};
-ghost use Rattle.test_parts.specs.Walk.{IsKnown, KeepsPlace, SlicesFirst};
+ghost use Rattle.test_parts.specs.Walk.{IsKnown, KeepsPlace, SplitsFirst};
 
 use super::calls::OnPost;
 use crate::known::Known;
@@ -114,8 +114,8 @@ impl<P: Glances> Walker<P> {
     }
 
     // Whether page 0 is there, and sliced in the phase that it runs.
-    fn slices_first(&self) -> bool
-        ensures { IsTrue result → SlicesFirst (P.view self.now.post) }
+    fn splits_first(&self) -> bool
+        ensures { IsTrue result → SplitsFirst (P.view self.now.post) }
     {
         let WorkerState::Runs(phase) = self.known.state else {
             return false;
@@ -154,7 +154,7 @@ impl<P: Glances> Walker<P> {
         ensures { KeepsPlace (P.board self.old.post) (P.view self.old.post)
             (P.board self.new.post) (P.view self.new.post) }
     {
-        let may_merge = self.saw_ending() && self.slices_first();
+        let may_merge = self.saw_ending() && self.splits_first();
         if !may_merge || likes == 0 || likes > self.known.room {
             return false;
         }
@@ -175,7 +175,7 @@ impl<P: Glances> Walker<P> {
         ensures { KeepsPlace (P.board self.old.post) (P.view self.old.post)
             (P.board self.new.post) (P.view self.new.post) }
     {
-        self.slices_first() && self.post.glance(0) == count
+        self.splits_first() && self.post.glance(0) == count
     }
 
     fn learns(&mut self, mask: u64) -> bool

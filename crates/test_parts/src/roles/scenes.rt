@@ -94,7 +94,8 @@ macro_rules! took {
     };
 }
 
-// The same, run in a phase: a like, and a look at this last like and count, which came out of the stash or did not.
+// A submitter's request of this number, or else submitter 0's, run in a phase: a like, and a look at this last like and
+// count, which came out of the stash or did not.
 macro_rules! liked {
     ($phase:literal, $number:literal) => {
         liked!($phase, $number, 0)

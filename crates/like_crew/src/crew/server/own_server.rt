@@ -12,7 +12,7 @@ ghost use Rattle.like_roles.specs.worker.Follows.{IsWorkloadOf};
 ghost use Rattle.like_roles.specs.worker.New.{IsNew, IsPostOf};
 ghost use Rattle.like_crew.specs.Fresh.{IsModelled, LooksFresh};
 ghost use Rattle.like_crew.specs.Server.{AreInboxesFor, AreOwnPlans, IsLogOf, ServerGoesOn, WorksFor};
-ghost use Rattle.like_crew.specs.ServerTurns.{OpensAll, OpensOne, ServerTurns, TakesOpen, place_at};
+ghost use Rattle.like_crew.specs.ServerTurns.{OpensAll, OpensOne, ServerTurns, TakesOpen, rank_at};
 
 use crate::crew::serving::Serving;
 use like_board::{LentPost, OwnBoard, OwnWorkerSeat};
@@ -114,7 +114,7 @@ impl<I: Inbox> OwnServer<I> {
 impl OwnServer<ListInbox> {
     /// Opens one item more of a submitter's list.
     pub fn open_one(&mut self, submitter: u32)
-        requires { place_at self.old.server submitter < length self.old.server.inboxes }
+        requires { rank_at self.old.server submitter < length self.old.server.inboxes }
         ensures opens { OpensOne submitter self.old.server self.new.server }
         ensures goes_on { ServerGoesOn self.old.server self.new.server }
         ensures place { self.new.place ≡ self.old.place }

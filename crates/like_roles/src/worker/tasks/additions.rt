@@ -1,11 +1,11 @@
 ghost use Rattle.std.specs.Prelude.{◌≡◌, ◌<◌, ◌^◌, true, length, vec_len, vec_capacity};
 ghost use Rattle.like_core.specs.WorkerState.{RunsSplit, SawEnding};
 ghost use Rattle.like_tables.specs.Liked.{AreUnliked};
-ghost use Rattle.like_roles.specs.worker.Desk.{HasNoted};
+ghost use Rattle.like_roles.specs.worker.Ledger.{HasNoted};
 ghost use Rattle.like_roles.specs.worker.Turns.{IsMerged};
-ghost use Rattle.like_roles.specs.worker.Work.{IsIdle, seat_at, worker_at};
+ghost use Rattle.like_roles.specs.worker.Work.{IsIdle, station_at, worker_at};
 
-use crate::worker::desk::Desk;
+use crate::worker::ledger::Ledger;
 use crate::worker::tasks::Work;
 use like_core::Post;
 use like_promises::Added;
@@ -19,20 +19,20 @@ impl Work {
         requires ending { SawEnding (P.view post.old).last }
         ensures idle { IsIdle (P.view post.new) self.new }
         ensures board { P.board post.new ≡ P.board post.old }
-        ensures empty { let s = seat_at (P.view post.new) self.new in AreUnliked s.slice 0 (length s.slice) }
+        ensures empty { let s = station_at (P.view post.new) self.new in AreUnliked s.slice 0 (length s.slice) }
         ensures merged { IsMerged (worker_at (P.view post.old) self.old) (worker_at (P.view post.new) self.new) }
     {
         let phase = self.phase();
         let mut from = 0;
         while let Some(merged) = self.tables.merge_next(post, from) {
-            self.desk
+            self.ledger
                 .note_addition(phase, merged.page, merged.old, merged.likes);
             from = merged.page + 1;
         }
     }
 }
 
-impl Desk {
+impl Ledger {
     // Notes an addition of n to a page's count, which was this before, where additions are noted.
     pub fn note_addition(&mut self, phase: u32, page: u32, old: u64, n: u64)
         requires few { vec_len self.old.ran < 2 ^ 32 }

@@ -2,9 +2,9 @@ ghost use Rattle.std.specs.Prelude.{◌≡◌, ◌<◌, IsTrue};
 ghost use Rattle.like_core.specs.Post.{pages_of};
 ghost use Rattle.like_core.specs.WorkerState.{IsRunning};
 ghost use Rattle.like_tables.specs.Share.{owns};
-ghost use Rattle.like_roles.specs.worker.Desk.{CanServe, HasRoomForOne, HasRoomToNote};
+ghost use Rattle.like_roles.specs.worker.Ledger.{CanServe, HasRoomForOne, HasRoomToNote};
 ghost use Rattle.like_roles.specs.worker.Serve.{Likes, Runs, GivesReply};
-ghost use Rattle.like_roles.specs.worker.Work.{IsIdle, seat_at, worker_at};
+ghost use Rattle.like_roles.specs.worker.Work.{IsIdle, station_at, worker_at};
 
 use crate::worker::judged::Judged;
 use crate::worker::tasks::Work;
@@ -17,28 +17,28 @@ impl Work {
     // Counts an accepted like of a page, which is then the user's last, and notes its addition, if it makes one.
     fn like<P: Post>(&mut self, post: &mut P, user: u32, page: u32)
         requires idle { IsIdle (P.view post.old) self.old }
-        requires room { HasRoomForOne (seat_at (P.view post.old) self.old) self.old.desk }
+        requires room { HasRoomForOne (station_at (P.view post.old) self.old) self.old.ledger }
         requires running { IsRunning (P.view post.old).state }
         requires there { page < pages_of (P.view post.old) }
         requires owned { IsTrue (owns self.old.tables.last.share user) }
         ensures idle { IsIdle (P.view post.new) self.new }
-        ensures room { HasRoomToNote (seat_at (P.view post.new) self.new) self.new.desk }
+        ensures room { HasRoomToNote (station_at (P.view post.new) self.new) self.new.ledger }
         ensures board { P.board post.new ≡ P.board post.old }
         ensures liked { Likes (worker_at (P.view post.old) self.old) user page (worker_at (P.view post.new) self.new) }
     {
         let phase = self.phase();
         if let Some(old) = self.tables.count_like(post, user, page) {
-            self.desk.note_addition(phase, page, old, 1);
+            self.ledger.note_addition(phase, page, old, 1);
         }
     }
 
     // Answers a judged request.
     fn serve<P: Post>(&mut self, post: &mut P, held: &Held, judged: Judged) -> Reply
         requires idle { IsIdle (P.view post.old) self.old }
-        requires room { HasRoomForOne (seat_at (P.view post.old) self.old) self.old.desk }
-        requires can { CanServe (seat_at (P.view post.old) self.old) held.now judged }
+        requires room { HasRoomForOne (station_at (P.view post.old) self.old) self.old.ledger }
+        requires can { CanServe (station_at (P.view post.old) self.old) held.now judged }
         ensures idle { IsIdle (P.view post.new) self.new }
-        ensures room { HasRoomToNote (seat_at (P.view post.new) self.new) self.new.desk }
+        ensures room { HasRoomToNote (station_at (P.view post.new) self.new) self.new.ledger }
         ensures board { P.board post.new ≡ P.board post.old }
         ensures serves { let v = worker_at (P.view post.old) self.old in let h = held.now in
             GivesReply v h.submitter h.ask.request result (worker_at (P.view post.new) self.new) }
@@ -69,8 +69,8 @@ impl Work {
         stashed: bool,
     )
         requires idle { IsIdle (P.view post.old) self.old }
-        requires room { HasRoomForOne (seat_at (P.view post.old) self.old) self.old.desk }
-        requires can { CanServe (seat_at (P.view post.old) self.old) held judged }
+        requires room { HasRoomForOne (station_at (P.view post.old) self.old) self.old.ledger }
+        requires can { CanServe (station_at (P.view post.old) self.old) held judged }
         ensures idle { IsIdle (P.view post.new) self.new }
         ensures board { P.board post.new ≡ P.board post.old }
         ensures ran { let v = worker_at (P.view post.old) self.old in
@@ -83,7 +83,7 @@ impl Work {
         );
         let reply = self.serve(post, &held, judged);
         let phase = self.phase();
-        self.desk.ran.push_reserved(Ran {
+        self.ledger.ran.push_reserved(Ran {
             phase,
             submitter: held.submitter,
             number: held.ask.number,

@@ -3,13 +3,13 @@ ghost use Rattle.like_core.specs.declared.worker_state.WorkerState.TheVariants.{
 ghost use Rattle.like_core.specs.WorkerState.{IsSightOf, RunsJoined, RunsSplit, SawEnding};
 ghost use Rattle.like_seat.specs.Steps.{Looks};
 ghost use Rattle.like_tables.specs.Share.{submitter_of};
-ghost use Rattle.like_roles.specs.worker.Desk.{HasSubmitters};
+ghost use Rattle.like_roles.specs.worker.Ledger.{HasSubmitters};
 ghost use Rattle.like_roles.specs.worker.Turns.{Turns, Works};
-ghost use Rattle.like_roles.specs.worker.Work.{IsIdle, IsReady, seat_at, worker_at};
+ghost use Rattle.like_roles.specs.worker.Work.{IsIdle, IsReady, station_at, worker_at};
 
 use crate::turn::Turn;
 use crate::worker::judged::Judged;
-use crate::worker::places::next_place;
+use crate::worker::ranks::next_open;
 use crate::worker::tasks::Work;
 use like_core::{Post, Sight};
 use like_requests::Gate;
@@ -43,15 +43,15 @@ impl Work {
         ensures idle { IsIdle (P.view post.new) self.new }
         ensures board { P.board post.new ≡ P.board post.old }
         ensures sight { IsSightOf (P.view post.old).state result }
-        ensures looks { Looks (seat_at (P.view post.old) self.old) result (seat_at (P.view post.new) self.new) }
-        ensures rest { self.new.desk ≡ record self.old.desk { started = true } }
+        ensures looks { Looks (station_at (P.view post.old) self.old) result (station_at (P.view post.new) self.new) }
+        ensures rest { self.new.ledger ≡ record self.old.ledger { started = true } }
     {
         let before = self.tables.phase();
         let sight = self.tables.look(post);
-        if !self.desk.started || self.tables.phase() != before {
+        if !self.ledger.started || self.tables.phase() != before {
             gate.phase(self.tables.users().worker(), self.phase());
         }
-        self.desk.started = true;
+        self.ledger.started = true;
         sight
     }
 
@@ -65,12 +65,12 @@ impl Work {
         ensures works { Works (worker_at (P.view post.old) self.old) ending result
             (worker_at (P.view post.new) self.new) }
     {
-        if let Some(first) = self.tables.next_held() {
+        if let Some(first) = self.tables.next_stashed() {
             let judged = Judged::of(self.tables.users(), &first);
             self.run(post, gate, first, judged, true);
             return Turn::Ran;
         }
-        let Some(place) = next_place(&self.desk.ended, self.desk.cursor) else {
+        let Some(rank) = next_open(&self.ledger.ended, self.ledger.cursor) else {
             self.tables.retire(post);
             return Turn::Retired;
         };
@@ -78,7 +78,7 @@ impl Work {
             self.tables.acknowledge(post);
             return Turn::Acknowledged;
         }
-        self.try_next(place)
+        self.try_next(rank)
     }
 
     // The turn of a worker that runs a split phase.
@@ -99,28 +99,28 @@ impl Work {
         if self.tables.is_full() {
             return Turn::Idle;
         }
-        match next_place(&self.desk.ended, self.desk.cursor) {
-            Some(place) => self.try_next(place),
+        match next_open(&self.ledger.ended, self.ledger.cursor) {
+            Some(rank) => self.try_next(rank),
             None => Turn::Idle,
         }
     }
 
-    // Tries the submitter at a place. The next one is looked for after it.
-    fn try_next(&mut self, place: usize) -> Turn
-        requires places { HasSubmitters self.old.tables.last.share self.old.desk }
-        requires there { place < length self.old.desk.ended.items }
+    // Tries the submitter at a rank. The next one is looked for after it.
+    fn try_next(&mut self, rank: usize) -> Turn
+        requires ranks { HasSubmitters self.old.tables.last.share self.old.ledger }
+        requires there { rank < length self.old.ledger.ended.items }
         ensures tables { self.new.tables ≡ self.old.tables }
-        ensures tried { self.new.desk ≡ record self.old.desk {
-          pending = Some place;
-          cursor = (place + 1) % length self.old.desk.ended.items;
+        ensures tried { self.new.ledger ≡ record self.old.ledger {
+          pending = Some rank;
+          cursor = (rank + 1) % length self.old.ledger.ended.items;
         } }
         ensures answer { let share = self.old.tables.last.share in
-            result ≡ Turn.Try (submitter_of share.workers share.worker place) }
+            result ≡ Turn.Try (submitter_of share.workers share.worker rank) }
     {
-        self.desk.pending = Some(place);
-        self.desk.cursor = (place + 1) % self.desk.ended.len();
+        self.ledger.pending = Some(rank);
+        self.ledger.cursor = (rank + 1) % self.ledger.ended.len();
         Turn::Try {
-            submitter: self.tables.users().submitter_at(place),
+            submitter: self.tables.users().submitter_at(rank),
         }
     }
 }

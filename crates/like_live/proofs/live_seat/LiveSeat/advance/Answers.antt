@@ -20,7 +20,7 @@ returns-then-not-sight-clause-moves g c =
     let sight = c.look_on-sight.result in
     let saw = c.look_on-sight.ensures.looks in
     let none = λ (joined : IsJoined (phase_of c.look_on-sight.new.self.post.state)).
-    ap (λ (s : StationView Asked). s.held.held) saw.looks.1
+    ap (λ (s : StationView Asked). s.stash.looks) saw.looks.1
     ∙ c.self.invariant.live.split
     (subst (λ (w : WorkerState). IsJoined (phase_of w)) c.look_on-sight.ensures.stays joined) in
     subst (λ (u : LiveView). Moves u Runs after) c.self.view_is
@@ -65,7 +65,7 @@ invariant_of-self-2 g c =
     after-works i.station c.look_on-sight.new.self done.new.station i.found done.new.found i.home i.pages i.room i.half
     c.look_on-sight.result c.self.invariant looks
     (Leaves-works (live_of c.look_on-sight.new.self i.found) (live_of done.new.station done.new.found) true done.result
-    looks.seat.sized done.ensures.works)
+    looks.station.sized done.ensures.works)
     done.ensures.live done.ensures.capacity
 
 pub returns-then-not-sight-clause-was : goal.returns-then-not-sight-clause-was

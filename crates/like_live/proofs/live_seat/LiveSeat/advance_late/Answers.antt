@@ -52,7 +52,7 @@ invariant_of-self-2 g c =
     after-works i.station looked.new.self done.new.station i.found done.new.found i.home i.pages i.room i.half looked.result
     c.self.invariant looked.ensures
     (Leaves-works (live_of looked.new.self i.found) (live_of done.new.station done.new.found) looked.result.ending
-    done.result looked.ensures.seat.sized done.ensures.works)
+    done.result looked.ensures.station.sized done.ensures.works)
     done.ensures.live done.ensures.capacity
 
 pub look_with_slots-sight-requires-clause-slotted : goal.look_with_slots-sight-requires-clause-slotted

@@ -46,7 +46,7 @@ pub invariant_of-self : goal.invariant_of-self
 invariant_of-self g c =
     let i = c.self.inside in
     after-back i.station c.come_back.new.self i.found i.home i.pages i.room i.half c.self.invariant
-    (c.is_gone.ensures.0 c.if-not-is_gone.false) (c.come_back.ensures.back c.if-come_back.true) c.come_back.ensures.seat
+    (c.is_gone.ensures.0 c.if-not-is_gone.false) (c.come_back.ensures.back c.if-come_back.true) c.come_back.ensures.station
 
 pub returns-then-come_back-clause-keeps : goal.returns-then-come_back-clause-keeps
 returns-then-come_back-clause-keeps g c = (invariant_of-self g c).live

@@ -1,5 +1,5 @@
 use Rattle.std.proofs.Common.{◌≡◌, ℕ, refl, ap, sym, subst, ◌∙◌}
-use Rattle.like_core.specs.Post.{slices}
+use Rattle.like_core.specs.Post.{is_split_at}
 use Rattle.like_core.specs.WorkerState.{IsRunning}
 use Rattle.like_seat.specs.StationView.{StationView}
 use Rattle.like_seat.specs.Steps.{Glances, Reads}
@@ -37,8 +37,8 @@ returns-clause-case g c =
 pub invariant_of-self : goal.invariant_of-self
 invariant_of-self g c =
     let i = c.self.inside in
-    after-glanced i.station c.glance.new.self i.found i.home i.pages i.room i.half c.in-Some.accepted.placed.user
-    c.args.page c.glance.result c.self.invariant c.glance.ensures.glances c.glance.ensures.seat
+    after-glanced i.station c.glance.new.self i.found i.home i.pages i.room i.half c.in-Some.accepted.ranked.user
+    c.args.page c.glance.result c.self.invariant c.glance.ensures.glances c.glance.ensures.station
 
 pub returns-then-accepted-clause-keeps : goal.returns-then-accepted-clause-keeps
 returns-then-accepted-clause-keeps g c = (invariant_of-self g c).live
@@ -46,8 +46,8 @@ returns-then-accepted-clause-keeps g c = (invariant_of-self g c).live
 pub invariant_of-self-2 : goal.invariant_of-self-2
 invariant_of-self-2 g c =
     let i = c.self.inside in
-    after-read i.station c.read_at.new.self i.found i.home i.pages i.room i.half c.in-Some.accepted.placed.user
-    c.args.page c.read_at.result c.self.invariant c.read_at.ensures.reads c.read_at.ensures.seat
+    after-read i.station c.read_at.new.self i.found i.home i.pages i.room i.half c.in-Some.accepted.ranked.user
+    c.args.page c.read_at.result c.self.invariant c.read_at.ensures.reads c.read_at.ensures.station
 
 pub returns-clause-keeps : goal.returns-clause-keeps
 returns-clause-keeps g c = (invariant_of-self-2 g c).live
@@ -69,18 +69,18 @@ glance-requires-clause-running g c =
 pub glance-requires-clause-there : goal.glance-requires-clause-there
 glance-requires-clause-there g c =
     let i = c.self.inside in
-    (accepted_in c.args.self.now i.station i.station i.found c.args.user c.args.page c.in-Some.accepted.placed
+    (accepted_in c.args.self.now i.station i.station i.found c.args.user c.args.page c.in-Some.accepted.ranked
     c.self.view_is refl c.in-Some.ensures.accepted).there
 
-pub glance-requires-clause-placed : goal.glance-requires-clause-placed
-glance-requires-clause-placed g c =
+pub glance-requires-clause-ranked : goal.glance-requires-clause-ranked
+glance-requires-clause-ranked g c =
     let i = c.self.inside in
-    (accepted_in c.args.self.now i.station i.station i.found c.args.user c.args.page c.in-Some.accepted.placed
-    c.self.view_is refl c.in-Some.ensures.accepted).place_is
+    (accepted_in c.args.self.now i.station i.station i.found c.args.user c.args.page c.in-Some.accepted.ranked
+    c.self.view_is refl c.in-Some.ensures.accepted).rank_is
 
-pub glance-requires-clause-sliced : goal.glance-requires-clause-sliced
-glance-requires-clause-sliced g c =
-    ap (λ (v : LiveView). slices v.station.post c.args.page) c.self.view_is
+pub glance-requires-clause-split : goal.glance-requires-clause-split
+glance-requires-clause-split g c =
+    ap (λ (v : LiveView). is_split_at v.station.post c.args.page) c.self.view_is
     ∙ sym c.in-Some.ensures.split ∙ c.if-accepted.true
 
 pub read_at-requires-clause-running : goal.read_at-requires-clause-running
@@ -90,16 +90,16 @@ read_at-requires-clause-running g c =
 pub read_at-requires-clause-there : goal.read_at-requires-clause-there
 read_at-requires-clause-there g c =
     let i = c.self.inside in
-    (accepted_in c.args.self.now i.station i.station i.found c.args.user c.args.page c.in-Some.accepted.placed
+    (accepted_in c.args.self.now i.station i.station i.found c.args.user c.args.page c.in-Some.accepted.ranked
     c.self.view_is refl c.in-Some.ensures.accepted).there
 
-pub read_at-requires-clause-placed : goal.read_at-requires-clause-placed
-read_at-requires-clause-placed g c =
+pub read_at-requires-clause-ranked : goal.read_at-requires-clause-ranked
+read_at-requires-clause-ranked g c =
     let i = c.self.inside in
-    (accepted_in c.args.self.now i.station i.station i.found c.args.user c.args.page c.in-Some.accepted.placed
-    c.self.view_is refl c.in-Some.ensures.accepted).place_is
+    (accepted_in c.args.self.now i.station i.station i.found c.args.user c.args.page c.in-Some.accepted.ranked
+    c.self.view_is refl c.in-Some.ensures.accepted).rank_is
 
 pub read_at-requires-clause-plain : goal.read_at-requires-clause-plain
 read_at-requires-clause-plain g c =
-    ap (λ (v : LiveView). slices v.station.post c.args.page) c.self.view_is
+    ap (λ (v : LiveView). is_split_at v.station.post c.args.page) c.self.view_is
     ∙ sym c.in-Some.ensures.split ∙ c.if-accepted.false

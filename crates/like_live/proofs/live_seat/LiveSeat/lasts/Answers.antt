@@ -1,5 +1,5 @@
 use Rattle.std.proofs.Common.{◌+◌, ◌≤◌, length, ap, subst, arith}
-use Rattle.like_tables.specs.Places.{AreLastsFrom}
+use Rattle.like_tables.specs.Ranks.{AreLastsFrom}
 use Rattle.like_tables.specs.UserTable.{IsUserTable, UserTable}
 use Rattle.like_live.specs.Lasts.{AreLastsAt, users_of}
 use Rattle.like_live.specs.LiveView.{LiveView, live_of}

@@ -12,10 +12,10 @@ pub invariant_of-self : goal.invariant_of-self
 invariant_of-self g c =
     let i = c.self.inside in
     subst (λ (t : StationView Asked). AreLiveSeatParts t i.found i.home i.pages i.room i.half) (sym c.store.ensures)
-    (after-counted i.station c.count_like_at.new.self i.found i.home i.pages i.room i.half c.args.placed.user c.args.page
+    (after-counted i.station c.count_like_at.new.self i.found i.home i.pages i.room i.half c.args.ranked.user c.args.page
     c.count_like_at.result c.self.invariant
-    (accepted_in _ i.station i.station i.found c.args.placed.user c.args.page c.args.placed c.self.view_is refl c.requires.accepted).there
-    c.count_like_at.ensures.counts c.count_like_at.ensures.seat)
+    (accepted_in _ i.station i.station i.found c.args.ranked.user c.args.page c.args.ranked c.self.view_is refl c.requires.accepted).there
+    c.count_like_at.ensures.counts c.count_like_at.ensures.station)
 
 pub returns-clause-keeps : goal.returns-clause-keeps
 returns-clause-keeps g c = (invariant_of-self g c).live
@@ -26,12 +26,12 @@ returns-clause-case g c =
     let live = c.self.invariant.live in
     let same : s ≡ c.args.self.now.station = ap (λ (w : LiveView). w.station) c.self.view_is in
     let few = not-full s live.station live.limits (omega (arith, c.likes.ensures.likes, c.if-likes-ge-MAX_LIKES.false)) in
-    let counts = subst (λ (t : StationView Asked). CountsLike s c.args.placed.user c.args.page c.count_like_at.result t)
+    let counts = subst (λ (t : StationView Asked). CountsLike s c.args.ranked.user c.args.page c.count_like_at.result t)
     (sym c.store.ensures) c.count_like_at.ensures.counts in
     liked c.count_like_at.result c.store.new.station c.requires.accepted.verdict
     (subst (λ (t : StationView Asked). likes_of t < t.post.opening.limits.likes) same few)
     refl
-    (subst (λ (t : StationView Asked). CountsLike t c.args.placed.user c.args.page c.count_like_at.result c.store.new.station)
+    (subst (λ (t : StationView Asked). CountsLike t c.args.ranked.user c.args.page c.count_like_at.result c.store.new.station)
     same counts)
     (ap (λ (w : LiveView). with_station w c.store.new.station) c.self.view_is)
 

@@ -1,5 +1,5 @@
 use Rattle.std.proofs.Common.{◌≡◌, ◌<◌, ℕ, None, Some, refl, ap, sym, subst, ◌∙◌}
-use Rattle.like_core.specs.Post.{slices}
+use Rattle.like_core.specs.Post.{is_split_at}
 use Rattle.like_core.specs.WorkerState.{IsRunning}
 use Rattle.like_seat.specs.StationView.{StationView, likes_of}
 use Rattle.like_seat.specs.Steps.{CountsLike}
@@ -62,11 +62,11 @@ returns-clause-case g c =
 pub invariant_of-self : goal.invariant_of-self
 invariant_of-self g c =
     let i = c.self.inside in
-    after-counted i.station c.try_sliced_at.new.self i.found i.home i.pages i.room i.half c.in-Some.accepted.placed.user
+    after-counted i.station c.try_sliced_at.new.self i.found i.home i.pages i.room i.half c.in-Some.accepted.ranked.user
     c.args.page None c.self.invariant
     (accepted_in _ i.station i.station i.found c.args.user c.args.page _ c.self.view_is refl c.in-Some.ensures.accepted).there
     (c.try_sliced_at.ensures.counts c.if-try_sliced_at.true)
-    c.try_sliced_at.ensures.seat
+    c.try_sliced_at.ensures.station
 
 pub returns-then-try_sliced_at-clause-keeps : goal.returns-then-try_sliced_at-clause-keeps
 returns-then-try_sliced_at-clause-keeps g c = (invariant_of-self g c).live
@@ -81,10 +81,10 @@ pub invariant_of-self-then-try_plain_at : goal.invariant_of-self-then-try_plain_
 invariant_of-self-then-try_plain_at g c =
     let i = c.self.inside in
     let counts = c.try_plain_at.ensures.counts c.if-try_plain_at.true in
-    after-counted i.station c.try_plain_at.new.self i.found i.home i.pages i.room i.half c.in-Some.accepted.placed.user
+    after-counted i.station c.try_plain_at.new.self i.found i.home i.pages i.room i.half c.in-Some.accepted.ranked.user
     c.args.page (Some counts.0) c.self.invariant
     (accepted_in _ i.station i.station i.found c.args.user c.args.page _ c.self.view_is refl c.in-Some.ensures.accepted).there
-    counts.1 c.try_plain_at.ensures.seat
+    counts.1 c.try_plain_at.ensures.station
 
 pub returns-then-try_plain_at-clause-keeps : goal.returns-then-try_plain_at-clause-keeps
 returns-then-try_plain_at-clause-keeps g c = (invariant_of-self-then-try_plain_at g c).live
@@ -112,18 +112,18 @@ try_sliced_at-requires-clause-running g c =
 pub try_sliced_at-requires-clause-there : goal.try_sliced_at-requires-clause-there
 try_sliced_at-requires-clause-there g c =
     let i = c.self.inside in
-    (accepted_in c.args.self.now i.station i.station i.found c.args.user c.args.page c.in-Some.accepted.placed
+    (accepted_in c.args.self.now i.station i.station i.found c.args.user c.args.page c.in-Some.accepted.ranked
     c.self.view_is refl c.in-Some.ensures.accepted).there
 
-pub try_sliced_at-requires-clause-placed : goal.try_sliced_at-requires-clause-placed
-try_sliced_at-requires-clause-placed g c =
+pub try_sliced_at-requires-clause-ranked : goal.try_sliced_at-requires-clause-ranked
+try_sliced_at-requires-clause-ranked g c =
     let i = c.self.inside in
-    (accepted_in c.args.self.now i.station i.station i.found c.args.user c.args.page c.in-Some.accepted.placed
-    c.self.view_is refl c.in-Some.ensures.accepted).place_is
+    (accepted_in c.args.self.now i.station i.station i.found c.args.user c.args.page c.in-Some.accepted.ranked
+    c.self.view_is refl c.in-Some.ensures.accepted).rank_is
 
 pub try_sliced_at-requires-clause-split : goal.try_sliced_at-requires-clause-split
 try_sliced_at-requires-clause-split g c =
-    ap (λ (v : LiveView). slices v.station.post c.args.page) c.self.view_is
+    ap (λ (v : LiveView). is_split_at v.station.post c.args.page) c.self.view_is
     ∙ sym c.in-Some.ensures.split ∙ c.if-accepted.true
 
 pub try_sliced_at-requires-clause-most : goal.try_sliced_at-requires-clause-most
@@ -138,7 +138,7 @@ like_late-requires-clause-running g c =
 pub like_late-requires-clause-accepted : goal.like_late-requires-clause-accepted
 like_late-requires-clause-accepted g c =
     let i = c.self.inside in
-    accepted_in c.args.self.now i.station c.try_sliced_at.new.self i.found c.args.user c.args.page c.in-Some.accepted.placed
+    accepted_in c.args.self.now i.station c.try_sliced_at.new.self i.found c.args.user c.args.page c.in-Some.accepted.ranked
     c.self.view_is (c.try_sliced_at.ensures.full c.if-try_sliced_at.false) c.in-Some.ensures.accepted
 
 pub returns-then-accepted-clause-keeps : goal.returns-then-accepted-clause-keeps
@@ -151,18 +151,18 @@ try_plain_at-requires-clause-running g c =
 pub try_plain_at-requires-clause-there : goal.try_plain_at-requires-clause-there
 try_plain_at-requires-clause-there g c =
     let i = c.self.inside in
-    (accepted_in c.args.self.now i.station i.station i.found c.args.user c.args.page c.in-Some.accepted.placed
+    (accepted_in c.args.self.now i.station i.station i.found c.args.user c.args.page c.in-Some.accepted.ranked
     c.self.view_is refl c.in-Some.ensures.accepted).there
 
-pub try_plain_at-requires-clause-placed : goal.try_plain_at-requires-clause-placed
-try_plain_at-requires-clause-placed g c =
+pub try_plain_at-requires-clause-ranked : goal.try_plain_at-requires-clause-ranked
+try_plain_at-requires-clause-ranked g c =
     let i = c.self.inside in
-    (accepted_in c.args.self.now i.station i.station i.found c.args.user c.args.page c.in-Some.accepted.placed
-    c.self.view_is refl c.in-Some.ensures.accepted).place_is
+    (accepted_in c.args.self.now i.station i.station i.found c.args.user c.args.page c.in-Some.accepted.ranked
+    c.self.view_is refl c.in-Some.ensures.accepted).rank_is
 
 pub try_plain_at-requires-clause-plain : goal.try_plain_at-requires-clause-plain
 try_plain_at-requires-clause-plain g c =
-    ap (λ (v : LiveView). slices v.station.post c.args.page) c.self.view_is
+    ap (λ (v : LiveView). is_split_at v.station.post c.args.page) c.self.view_is
     ∙ sym c.in-Some.ensures.split ∙ c.if-accepted.false
 
 pub try_plain_at-requires-clause-most : goal.try_plain_at-requires-clause-most
@@ -177,7 +177,7 @@ like_late-requires-2-clause-running g c =
 pub like_late-requires-2-clause-accepted : goal.like_late-requires-2-clause-accepted
 like_late-requires-2-clause-accepted g c =
     let i = c.self.inside in
-    accepted_in c.args.self.now i.station c.try_plain_at.new.self i.found c.args.user c.args.page c.in-Some.accepted.placed
+    accepted_in c.args.self.now i.station c.try_plain_at.new.self i.found c.args.user c.args.page c.in-Some.accepted.ranked
     c.self.view_is (c.try_plain_at.ensures.full c.if-try_plain_at.false) c.in-Some.ensures.accepted
 
 pub returns-clause-keeps : goal.returns-clause-keeps

@@ -1,15 +1,15 @@
 use Rattle.std.proofs.Common.{◌≡◌, ◌+◌, ℕ, true, length, refl, ap, sym, subst, ◌∙◌, arith, IsTrue}
 use Rattle.std.proofs.lemmas.Bool.{not-false, not-true}
-use Rattle.like_core.specs.Post.{slices}
+use Rattle.like_core.specs.Post.{is_split_at}
 use Rattle.like_core.specs.WorkerState.{IsRunning, RunsSplit, phase_of}
 use Rattle.like_requests.specs.declared.verdict.Verdict.TheVariants.{Accepted}
 use Rattle.like_seat.specs.StationView.{StationView, phase_at}
-use Rattle.like_seat.specs.Steps.{Reads, holding}
+use Rattle.like_seat.specs.Steps.{Reads, stashing}
 use Rattle.like_tables.specs.Share.{owns}
-use Rattle.like_tables.specs.declared.placed.Placed.{Placed}
+use Rattle.like_tables.specs.declared.ranked.Ranked.{Ranked}
 use Rattle.like_live.specs.declared.answer.LookAnswer.TheVariants.{Refused, Waits}
 use Rattle.like_live.specs.declared.asked.Asked.{Asked}
-use Rattle.like_live.specs.Calls.{IsAccepted, LooksNow, PutsBy, asked_in, no_room, refused, seen, verdict_at, waits}
+use Rattle.like_live.specs.Calls.{IsAccepted, LooksNow, Stashes, asked_in, no_room, refused, seen, verdict_at, waits}
 use Rattle.like_live.specs.LiveView.{IsLive, IsOwn, LiveView, room_of, waiting, with_station}
 use Rattle.like_live.proofs.Finding.{split_since}
 use Rattle.like_live.proofs.Requests.{accepted_in, after-read}
@@ -18,18 +18,18 @@ use Rattle.like_live.proofs.live_seat.LiveSeat.look_now.Goals as goal
 use Rattle.like_live.proofs.live_seat.LiveSeat.look_now.Goals.{then-wait-via-then-wait, then-wait-via-else-wait+then-wait_late}
 
 -- a look that is accepted is one that the seat can answer
-own : (s : StationView Asked) (user page tag phase : ℕ) (placed : Placed)
-    → IsAccepted s user page placed
+own : (s : StationView Asked) (user page tag phase : ℕ) (ranked : Ranked)
+    → IsAccepted s user page ranked
     → IsOwn s (asked_in phase user page tag)
-own s user page tag phase placed a = record {
+own s user page tag phase ranked a = record {
   there = a.there;
-  owned = subst (λ u. IsTrue (owns s.last.share u)) a.user_is a.place_is.owned;
+  owned = subst (λ u. IsTrue (owns s.last.share u)) a.user_is a.rank_is.owned;
 }
 
 -- a seat that runs a phase in which some page is split runs a split one
 runs-split : (s : StationView Asked) (page : ℕ)
     → IsRunning s.post.state
-    → slices s.post page ≡ true
+    → is_split_at s.post page ≡ true
     → RunsSplit s.post.state
 runs-split s page running split =
     split_since s.post.state (phase_of s.post.state) running refl
@@ -38,13 +38,13 @@ runs-split s page running split =
 -- a look that was put by waits
 put-by : (v after : LiveView) (user page tag phase : ℕ)
     → verdict_at v.station user page ≡ Accepted
-    → slices v.station.post page ≡ true
+    → is_split_at v.station.post page ≡ true
     → phase ≡ phase_at v.station
-    → PutsBy v (asked_in phase user page tag) after
+    → Stashes v (asked_in phase user page tag) after
     → LooksNow v user page tag Waits after
 put-by v after user page tag phase accepted split is puts =
     waits accepted split puts.room refl
-    (subst (λ p. after ≡ with_station v (holding v.station (asked_in p user page tag))) is puts.is)
+    (subst (λ p. after ≡ with_station v (stashing v.station (asked_in p user page tag))) is puts.is)
 
 pub returns-then-not-accepted-clause-case : goal.returns-then-not-accepted-clause-case
 returns-then-not-accepted-clause-case g c =
@@ -55,26 +55,26 @@ returns-then-not-accepted-clause-case g c =
     refl
     (subst (λ (t : StationView Asked). Reads t c.args.user c.args.page c.read_at.result c.read_at.new.self) same
     (subst (λ (u : ℕ). Reads s u c.args.page c.read_at.result c.read_at.new.self) c.in-Some.ensures.accepted.user_is
-    (subst (λ (t : StationView Asked). Reads t c.in-Some.accepted.placed.user c.args.page c.read_at.result c.read_at.new.self)
+    (subst (λ (t : StationView Asked). Reads t c.in-Some.accepted.ranked.user c.args.page c.read_at.result c.read_at.new.self)
     c.count_look.ensures c.read_at.ensures.reads)))
     (ap (λ (w : LiveView). with_station w c.read_at.new.self) c.self.view_is)
 
 pub invariant_of-self : goal.invariant_of-self
 invariant_of-self g c =
     let i = c.self.inside in
-    let user = c.in-Some.accepted.placed.user in
+    let user = c.in-Some.accepted.ranked.user in
     after-read i.station c.read_at.new.self i.found i.home i.pages i.room i.half user c.args.page c.read_at.result
     c.self.invariant
     (subst (λ (t : StationView Asked). Reads t user c.args.page c.read_at.result c.read_at.new.self)
     c.count_look.ensures c.read_at.ensures.reads)
-    c.read_at.ensures.seat
+    c.read_at.ensures.station
 
 pub returns-then-not-accepted-clause-keeps : goal.returns-then-not-accepted-clause-keeps
 returns-then-not-accepted-clause-keeps g c = (invariant_of-self g c).live
 
 pub wait-requires-clause-own : goal.wait-requires-clause-own
 wait-requires-clause-own g c =
-    own c.args.self.now.station c.args.user c.args.page c.args.tag c.args.phase c.in-Some.accepted.placed
+    own c.args.self.now.station c.args.user c.args.page c.args.tag c.args.phase c.in-Some.accepted.ranked
     c.in-Some.ensures.accepted
 
 pub wait-requires-clause-split : goal.wait-requires-clause-split
@@ -86,7 +86,7 @@ pub wait_late-requires-clause-own : goal.wait_late-requires-clause-own
 wait_late-requires-clause-own g c =
     subst (λ (v : LiveView). IsOwn v.station (asked_in c.args.phase c.args.user c.args.page c.args.tag))
     (sym (c.wait.ensures.none c.if-wait.false))
-    (own c.args.self.now.station c.args.user c.args.page c.args.tag c.args.phase c.in-Some.accepted.placed
+    (own c.args.self.now.station c.args.user c.args.page c.args.tag c.args.phase c.in-Some.accepted.ranked
     c.in-Some.ensures.accepted)
 
 pub wait_late-requires-clause-split : goal.wait_late-requires-clause-split
@@ -107,10 +107,10 @@ returns-then-wait-clause-case g c =
     (sym c.in-Some.ensures.split ∙ not-false _ c.if-not-accepted.false) c.requires.phase
     (elim c.then-wait.branch [
       | then-wait-via-then-wait w ↦
-          subst (λ (u : LiveView). PutsBy v asked u) (sym w.self-is) (c.wait.ensures.waits w.if-wait.true)
+          subst (λ (u : LiveView). Stashes v asked u) (sym w.self-is) (c.wait.ensures.waits w.if-wait.true)
       | then-wait-via-else-wait+then-wait_late w ↦
-          subst (λ (u : LiveView). PutsBy v asked u) (sym w.self-is)
-          (subst (λ (u : LiveView). PutsBy u asked w.wait_late.new.self) (c.wait.ensures.none w.if-wait.false)
+          subst (λ (u : LiveView). Stashes v asked u) (sym w.self-is)
+          (subst (λ (u : LiveView). Stashes u asked w.wait_late.new.self) (c.wait.ensures.none w.if-wait.false)
           (w.wait_late.ensures.waits w.if-wait_late.true))
     ])
 
@@ -142,19 +142,19 @@ read_at-requires-clause-running g c =
 pub read_at-requires-clause-there : goal.read_at-requires-clause-there
 read_at-requires-clause-there g c =
     let i = c.self.inside in
-    (accepted_in c.args.self.now i.station c.count_look.new.station i.found c.args.user c.args.page c.in-Some.accepted.placed
+    (accepted_in c.args.self.now i.station c.count_look.new.station i.found c.args.user c.args.page c.in-Some.accepted.ranked
     c.self.view_is c.count_look.ensures c.in-Some.ensures.accepted).there
 
-pub read_at-requires-clause-placed : goal.read_at-requires-clause-placed
-read_at-requires-clause-placed g c =
+pub read_at-requires-clause-ranked : goal.read_at-requires-clause-ranked
+read_at-requires-clause-ranked g c =
     let i = c.self.inside in
-    (accepted_in c.args.self.now i.station c.count_look.new.station i.found c.args.user c.args.page c.in-Some.accepted.placed
-    c.self.view_is c.count_look.ensures c.in-Some.ensures.accepted).place_is
+    (accepted_in c.args.self.now i.station c.count_look.new.station i.found c.args.user c.args.page c.in-Some.accepted.ranked
+    c.self.view_is c.count_look.ensures c.in-Some.ensures.accepted).rank_is
 
 pub read_at-requires-clause-plain : goal.read_at-requires-clause-plain
 read_at-requires-clause-plain g c =
-    ap (λ (t : StationView Asked). slices t.post c.args.page) c.count_look.ensures
-    ∙ ap (λ (v : LiveView). slices v.station.post c.args.page) c.self.view_is
+    ap (λ (t : StationView Asked). is_split_at t.post c.args.page) c.count_look.ensures
+    ∙ ap (λ (v : LiveView). is_split_at v.station.post c.args.page) c.self.view_is
     ∙ sym c.in-Some.ensures.split ∙ not-true _ c.if-not-accepted.true
 
 pub wait-requires-clause-phase : goal.wait-requires-clause-phase

@@ -8,7 +8,7 @@ use Rattle.like_seat.specs.StationView.{StationView, phase_at}
 use Rattle.like_seat.specs.Steps.{IsNewStation}
 use Rattle.like_tables.specs.Home.{Home, IsHomeOf}
 use Rattle.like_tables.specs.UserTable.{UserTable}
-use Rattle.like_tables.specs.Waiting.{Waiting}
+use Rattle.like_tables.specs.StashView.{StashView}
 use Rattle.like_live.specs.declared.asked.Asked.{Asked}
 use Rattle.like_live.specs.declared.asked.Found.{Found}
 use Rattle.like_live.specs.Kept.{AreLiveSeatParts}
@@ -18,10 +18,10 @@ use Rattle.like_live.proofs.Looking.{all-none}
 use Rattle.like_live.proofs.live_seat.LiveSeat.new.Goals as goal
 
 -- the parts of a new live seat agree
-new-parts : (board : List ℕ) (post : WorkerSeatView) (s : StationView Asked) (found : Waiting Found) (home : Home) (users : UserTable)
+new-parts : (board : List ℕ) (post : WorkerSeatView) (s : StationView Asked) (found : StashView Found) (home : Home) (users : UserTable)
     (pages room : ℕ) (left : RoomView)
     → IsNewStation board post room users s
-    → found ≡ record { held = []; capacity = room }
+    → found ≡ record { looks = []; capacity = room }
     → IsHomeOf home users.share
     → left ≡ record { free = 0; left = room }
     → post.opening.limits ≡ service_limits
@@ -30,9 +30,9 @@ new-parts : (board : List ℕ) (post : WorkerSeatView) (s : StationView Asked) (
     → HasLastsWithin pages users
     → AreLiveSeatParts s found home pages left (room / 2)
 new-parts board post s found home users pages room left new is home_is all limits marks alone within =
-    let none = ap (λ (w : Waiting Asked). w.held) new.held in
-    let capacity = ap (λ (w : Waiting Asked). w.capacity) new.held in
-    let none_found = ap (λ (w : Waiting Found). w.held) is in
+    let none = ap (λ (w : StashView Asked). w.looks) new.stash in
+    let capacity = ap (λ (w : StashView Asked). w.capacity) new.stash in
+    let none_found = ap (λ (w : StashView Found). w.looks) is in
     let no_more = ap (λ (xs : List Asked). length xs) none in
     let many : length post.opening.marks ≡ pages =
     ap (λ (xs : List Bool). length xs) marks ∙ length-replicate {A = Bool} pages false in
@@ -46,12 +46,12 @@ new-parts board post s found home users pages room left new is home_is all limit
             (subst (λ n. HasLastsWithin n users)
             (sym (ap (λ (p : WorkerSeatView). pages_of p) new.at_post ∙ many)) within);
         split = λ joined. none;
-        own = all-none (IsOwn s) s.held.held none;
-        asked = all-none (λ (a : Asked). a.phase ≡ phase_at s) s.held.held none;
-        next = all-none RanNext found.held none_found;
+        own = all-none (IsOwn s) s.stash.looks none;
+        asked = all-none (λ (a : Asked). a.phase ≡ phase_at s) s.stash.looks none;
+        next = all-none RanNext found.looks none_found;
         room = omega (arith, no_more, no_found);
       };
-      capacity = ap (λ (w : Waiting Found). w.capacity) is ∙ sym capacity;
+      capacity = ap (λ (w : StashView Found). w.capacity) is ∙ sym capacity;
       home_is = subst (λ (t : UserTable). IsHomeOf home t.share) (sym new.last) home_is;
       pages_are =
           sym (ap (λ (p : WorkerSeatView). pages_of p) new.at_post ∙ many);
@@ -98,9 +98,9 @@ returns-in-Ok-clause-new g c =
     record {
       at_board = new.at_board;
       at_post = new.at_post;
-      held = new.held;
+      stash = new.stash;
       slice = new.slice;
       sliced = new.sliced;
       last = new.last;
-      found = ap (λ (w : Waiting Found). w.held) c.in_ok-found.ensures;
+      found = ap (λ (w : StashView Found). w.looks) c.in_ok-found.ensures;
     }

@@ -12,7 +12,7 @@ use Rattle.like_live.proofs.live_seat.LiveSeat.take_found.Goals as goal
 pub invariant_of-self : goal.invariant_of-self
 invariant_of-self g c =
     let i = c.self.inside in
-    let none = none_first i.found.held (sym c.pop_front.ensures.first ∙ c.in_err-found.was) in
+    let none = none_first i.found.looks (sym c.pop_front.ensures.first ∙ c.in_err-found.was) in
     after-taken i.station i.found c.pop_front.new.self i.home i.pages i.room i.room i.half c.self.invariant
     c.pop_front.ensures.rest
     (ap (λ (xs : List Found). i.room.left + length (drop 1 xs)) none
@@ -35,7 +35,7 @@ give-requires g c = omega (arith, c.self.invariant.room_is, c.self.invariant.liv
 pub invariant_of-self-2 : goal.invariant_of-self-2
 invariant_of-self-2 g c =
     let i = c.self.inside in
-    let first = first_of i.found.held c.in_ok-found.found (sym c.pop_front.ensures.first ∙ c.in_ok-found.was) in
+    let first = first_of i.found.looks c.in_ok-found.found (sym c.pop_front.ensures.first ∙ c.in_ok-found.was) in
     after-taken i.station i.found c.pop_front.new.self i.home i.pages i.room c.give.new.self i.half c.self.invariant
     c.pop_front.ensures.rest
     (omega (arith, ap (λ (xs : List Found). length xs) first, ap (λ (r : RoomView). r.left) c.give.ensures))
@@ -47,8 +47,8 @@ returns-clause-keeps g c = (invariant_of-self-2 g c).live
 pub returns-clause-next : goal.returns-clause-next
 returns-clause-next g c =
     let i = c.self.inside in
-    let first = first_of i.found.held c.in_ok-found.found (sym c.pop_front.ensures.first ∙ c.in_ok-found.was) in
-    All-head RanNext c.in_ok-found.found (drop 1 i.found.held) (subst (All RanNext) first c.self.invariant.live.next)
+    let first = first_of i.found.looks c.in_ok-found.found (sym c.pop_front.ensures.first ∙ c.in_ok-found.was) in
+    All-head RanNext c.in_ok-found.found (drop 1 i.found.looks) (subst (All RanNext) first c.self.invariant.live.next)
 
 pub returns-clause-takes : goal.returns-clause-takes
 returns-clause-takes g c =

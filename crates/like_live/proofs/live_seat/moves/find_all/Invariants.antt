@@ -12,4 +12,4 @@ invariant-loop-asked g l = record {
 }
 
 abbrev pub decreases-loop-asked : goal.decreases-loop-asked
-decreases-loop-asked g l = length l.station.held.held
+decreases-loop-asked g l = length l.station.stash.looks

@@ -49,7 +49,7 @@ returns-clause-live g c =
     subst (λ (s : StationView Asked). IsLive (live_of s c.find_all.new.found)) (sym is)
     (stopped-live (live_of c.find_all.new.station c.find_all.new.found) (answered c.find_all.new.station.post) found
     (ap (λ (v : LiveView). waiting v) c.find_all.ensures.finds.rest) refl
-    (subst (λ (s : StationView Asked). IsStation s) is c.acknowledge.ensures.seat))
+    (subst (λ (s : StationView Asked). IsStation s) is c.acknowledge.ensures.station))
 
 pub returns-clause-capacity : goal.returns-clause-capacity
 returns-clause-capacity g c = c.find_all.ensures.capacity

@@ -60,4 +60,4 @@ pub returns-clause-live : goal.returns-clause-live
 returns-clause-live g c =
     merged-live c.args.station.now c.merge_and_report.new.self c.args.found.now c.requires.looked
     (omega (arith, c.phase-phase.ensures.phase, c.if-phase-eq0.false)) c.merge_and_report.ensures.reports
-    c.merge_and_report.ensures.seat
+    c.merge_and_report.ensures.station

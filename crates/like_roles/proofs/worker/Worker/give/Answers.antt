@@ -10,4 +10,4 @@ returns-clause-case g c =
     (worker_at (g.P.Post.view c.give.new.post) c.give.new.self)) c.self.view_is c.give.ensures.case
 
 pub returns-clause-slice : goal.returns-clause-slice
-returns-clause-slice g c = c.give.ensures.ready.kept.seat.split
+returns-clause-slice g c = c.give.ensures.ready.kept.station.split

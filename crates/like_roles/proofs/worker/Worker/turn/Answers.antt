@@ -10,4 +10,4 @@ returns-clause-case g c =
     c.self.view_is c.turn.ensures.case
 
 pub returns-clause-slice : goal.returns-clause-slice
-returns-clause-slice g c = c.turn.ensures.ready.kept.seat.split
+returns-clause-slice g c = c.turn.ensures.ready.kept.station.split

@@ -46,7 +46,7 @@ returns-clause-back g c = λ _.
             (λ m. record (view_of (g.P.Post.board c.self.inside.post) p t) {
               board = (c.enter_slots.ensures.board ∙ c.come_back.ensures.board) m;
               post = after m;
-              held = (e.rest m).held;
+              stash = (e.rest m).stash;
               slice = slice m;
               sliced = (e.rest m).sliced.likes;
               last = (e.rest m).last;
@@ -55,8 +55,8 @@ returns-clause-back g c = λ _.
       ),
     )
 
-pub returns-clause-seat : goal.returns-clause-seat
-returns-clause-seat g c = (invariant_of-self-2 g c).seat
+pub returns-clause-station : goal.returns-clause-station
+returns-clause-station g c = (invariant_of-self-2 g c).station
 
 pub come_back-requires-clause-gone : goal.come_back-requires-clause-gone
 come_back-requires-clause-gone g c =
@@ -75,8 +75,8 @@ returns-in_default-clause-none g c = λ _.
     ◌∙◌ {b = view_of (g.P.Post.board c.self.inside.post) (g.P.Post.view c.self.inside.post) c.self.inside.tables}
     (λ m. view_of (c.come_back.ensures.board m) (c.in_default.ensures.none m) c.self.inside.tables) c.self.view_is
 
-pub returns-in_default-clause-seat : goal.returns-in_default-clause-seat
-returns-in_default-clause-seat g c = (invariant_of-self g c).seat
+pub returns-in_default-clause-station : goal.returns-in_default-clause-station
+returns-in_default-clause-station g c = (invariant_of-self g c).station
 
 pub enter_slots-requires-clause-may : goal.enter_slots-requires-clause-may
 enter_slots-requires-clause-may g c =

@@ -48,8 +48,8 @@ sized : {W : Type 0} (f : ℕ) (s0 s t : StationView W) (n : ℕ) (adds : List A
     → t ≡ s
     → IsStation t
     → length s0.slice ≡ pages_of s0.post
-sized {W} f s0 s t n adds m is seat =
-    sym m.sized ∙ sym (ap (λ (x : StationView W). length x.slice) is) ∙ seat.sized
+sized {W} f s0 s t n adds m is station =
+    sym m.sized ∙ sym (ap (λ (x : StationView W). length x.slice) is) ∙ station.sized
     ∙ ap (λ (x : StationView W). pages_of x.post) (is ∙ m.rest)
 
 pub returns-clause-merges : goal.returns-clause-merges
@@ -61,7 +61,7 @@ returns-clause-merges g c =
     let adds = l.invariant.merging.0 in
     let m = l.invariant.merging.1 in
     let done = subst (λ r. MergesNext l.self l.from r t) c.in_default.is c.merge_next.ensures.merges in
-    let pages = sized f s0 l.self t l.from adds m done.1 c.merge_next.ensures.seat in
+    let pages = sized f s0 l.self t l.from adds m done.1 c.merge_next.ensures.station in
     let none = subst (λ (x : ℕ). NoneFrom x l.self.slice l.from)
     (ap (λ (x : StationView g.row.W.Denot). x.post.opening.factor) m.rest) done.0 in
     (adds, Merging-done f s0 l.self t l.from adds m none done.1 pages)

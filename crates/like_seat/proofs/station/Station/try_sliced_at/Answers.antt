@@ -1,14 +1,14 @@
 use Rattle.std.proofs.Common.{◌≡◌, ℕ, ◌+◌, ◌^◌, ◌<◌, ◌≤◌, true, get_or, length, length-set, set, sum, refl, sym, ap, subst, ◌∙◌, arith}
-use Rattle.like_core.specs.Post.{pages_of, slices}
+use Rattle.like_core.specs.Post.{is_split_at, pages_of}
 use Rattle.like_core.specs.WorkerState.{IsRunning}
 use Rattle.like_tables.specs.SplitSlice.{SplitSlice, bucket_in, by_page, has_split, likes_in}
 use Rattle.like_tables.proofs.ByPage.{by_page-with_likes, get_or-by_page}
 use Rattle.like_seat.specs.LikeCount.{LikeCountView}
 use Rattle.like_seat.specs.Kept.{IsKept, view_of}
 use Rattle.like_seat.specs.StationView.{StationView, likes_of}
-use Rattle.like_tables.specs.Placed.{IsPlaced}
+use Rattle.like_tables.specs.Ranked.{IsRanked}
 use Rattle.like_seat.specs.Steps.{liked_last, sliced}
-use Rattle.like_seat.proofs.Keeping.{Kept-written, has_split-slices, sum-written}
+use Rattle.like_seat.proofs.Keeping.{Kept-written, has_split-at_post, sum-written}
 use Rattle.like_seat.proofs.station.Station.try_sliced_at.Goals as goal
 
 pub invariant_of-self-2 : goal.invariant_of-self-2
@@ -27,8 +27,8 @@ invariant_of-self-2 g c =
     let runs : IsRunning p.state =
     subst (λ (v : StationView g.row.W.Denot). IsRunning v.post.state) (sym c.self.view_is) c.requires.running in
     let split : has_split t.slice page ≡ true =
-    has_split-slices p t.slice page k.splits runs there
-    ∙ subst (λ (v : StationView g.row.W.Denot). slices v.post page ≡ true) (sym c.self.view_is) c.requires.split in
+    has_split-at_post p t.slice page k.splits runs there
+    ∙ subst (λ (v : StationView g.row.W.Denot). is_split_at v.post page ≡ true) (sym c.self.view_is) c.requires.split in
     let sums : sum (by_page c.add.new.self n) ≡ sum c.add.new.self.counts =
     ap (λ (s : SplitSlice). sum (by_page s n)) c.add.ensures.counted
     ∙ sum-written t.slice n page (likes_in t.slice page + 1) (sum c.add.new.self.counts) k.slice split there k.sums
@@ -51,14 +51,14 @@ returns-clause-counts g c =
     let runs : IsRunning p.state =
     subst (λ (v : StationView g.row.W.Denot). IsRunning v.post.state) (sym c.self.view_is) c.requires.running in
     let split : has_split t.slice page ≡ true =
-    has_split-slices p t.slice page k.splits runs there
-    ∙ subst (λ (v : StationView g.row.W.Denot). slices v.post page ≡ true) (sym c.self.view_is) c.requires.split in
+    has_split-at_post p t.slice page k.splits runs there
+    ∙ subst (λ (v : StationView g.row.W.Denot). is_split_at v.post page ≡ true) (sym c.self.view_is) c.requires.split in
     let had = get_or-by_page t.slice n page 0 there in
     let likes : by_page c.add.new.self n ≡ set (by_page t.slice n) page (get_or (by_page t.slice n) page 0 + 1) =
     ap (λ (s : SplitSlice). by_page s n) c.add.ensures.counted
     ∙ by_page-with_likes t.slice n page (likes_in t.slice page + 1) k.slice split there
     ∙ ap (λ (x : ℕ). set (by_page t.slice n) page (x + 1)) (sym had) in
-    let counted = λ (v : StationView g.row.W.Denot). liked_last (sliced v page) c.args.placed.user page in λ _. (
+    let counted = λ (v : StationView g.row.W.Denot). liked_last (sliced v page) c.args.ranked.user page in λ _. (
       c.requires.split,
       ◌∙◌ {b = counted (view_of (g.P.Post.board c.self.inside.post) p t)}
           (λ i. record (view_of (g.P.Post.board c.self.inside.post) p t) {
@@ -75,8 +75,8 @@ invariant_of-self g c =
     subst (λ (n : LikeCountView). IsKept (g.P.Post.view c.self.inside.post) (record t { likes = n }))
     (sym (c.try_count.ensures.none c.if-not-try_count.true).1) c.self.invariant
 
-pub returns-clause-seat : goal.returns-clause-seat
-returns-clause-seat g c = (invariant_of-self-2 g c).seat
+pub returns-clause-station : goal.returns-clause-station
+returns-clause-station g c = (invariant_of-self-2 g c).station
 
 pub returns-clause-few : goal.returns-clause-few
 returns-clause-few g c = λ _.
@@ -87,10 +87,10 @@ returns-clause-few g c = λ _.
 pub returns-then-not-try_count-clause-full : goal.returns-then-not-try_count-clause-full
 returns-then-not-try_count-clause-full g c = λ _. c.self.view_is
 
-pub set_at-requires-clause-placed : goal.set_at-requires-clause-placed
-set_at-requires-clause-placed g c =
-    subst (λ (v : StationView g.row.W.Denot). IsPlaced v.last.share c.args.placed) (sym c.self.view_is)
-    c.requires.placed
+pub set_at-requires-clause-ranked : goal.set_at-requires-clause-ranked
+set_at-requires-clause-ranked g c =
+    subst (λ (v : StationView g.row.W.Denot). IsRanked v.last.share c.args.ranked) (sym c.self.view_is)
+    c.requires.ranked
 
 pub add-requires-clause-split : goal.add-requires-clause-split
 add-requires-clause-split g c =
@@ -102,5 +102,5 @@ add-requires-clause-split g c =
     subst (λ (v : StationView g.row.W.Denot). page < pages_of v.post) (sym c.self.view_is) c.requires.there in
     let runs : IsRunning p.state =
     subst (λ (v : StationView g.row.W.Denot). IsRunning v.post.state) (sym c.self.view_is) c.requires.running in
-    has_split-slices p t.slice page k.splits runs there
-    ∙ subst (λ (v : StationView g.row.W.Denot). slices v.post page ≡ true) (sym c.self.view_is) c.requires.split
+    has_split-at_post p t.slice page k.splits runs there
+    ∙ subst (λ (v : StationView g.row.W.Denot). is_split_at v.post page ≡ true) (sym c.self.view_is) c.requires.split

@@ -10,7 +10,7 @@ use Rattle.like_limits.specs.Buckets.{run_factor}
 use Rattle.like_limits.specs.Limits.{max_stash}
 use Rattle.like_tables.specs.SplitSlice.{SplitSlice, by_page, no_slice}
 use Rattle.like_tables.specs.UserTable.{UserTable}
-use Rattle.like_tables.specs.Waiting.{IsWaiting, Waiting}
+use Rattle.like_tables.specs.StashView.{IsStash, StashView}
 use Rattle.like_seat.specs.declared.tables.Tables.{Tables}
 use Rattle.like_seat.specs.Kept.{AreNew, IsKept, IsNewOfRun, IsOfRun, view_of}
 use Rattle.like_seat.specs.Steps.{IsNewStation}
@@ -44,14 +44,14 @@ module _ {W C : Type 0} (marks : List Bool) (room : ℕ) (users : UserTable) (t 
       (λ plain. subst (IsOfRun post.opening) (sym new.marks_are) is.run)
       (λ slotted. absurd (cc (slotted, is.run.plain))) (runs ∙ sym new.state) (omega (arith, new.likes, none, added))
       (omega (arith, new.likes)) is.few_pages is.limits (omega (arith, phase))
-      (subst (λ (w : Waiting W). IsWaiting w) (sym new.held) (record { some = some; few = few; within = omega arith }))
+      (subst (λ (w : StashView W). IsStash w) (sym new.stash) (record { some = some; few = few; within = omega arith }))
 
   new_station : (board : List ℕ) → IsNewStation board post room users (view_of board post t)
   new_station board = record {
-    is = new_kept.seat;
+    is = new_kept.station;
     at_board = refl;
     at_post = refl;
-    held = new.held;
+    stash = new.stash;
     slice = likes_are ∙ by_page-no_slice run_factor pages pages;
     sliced = new.sliced;
     last = new.last;

@@ -11,14 +11,14 @@ use Rattle.like_seat.proofs.Keeping.{Kept-written, sum-written}
 use Rattle.like_seat.proofs.MergedLikes.{all_added-push}
 use Rattle.like_seat.proofs.tables.Tables.count_like_at.Goals as goal
 
-pub returns-then-is_sliced-clause-kept : goal.returns-then-is_sliced-clause-kept
-returns-then-is_sliced-clause-kept g c =
+pub returns-then-is_split-clause-kept : goal.returns-then-is_split-clause-kept
+returns-then-is_split-clause-kept g c =
     let p = g.P.Post.view c.args.post.now in
     let t = c.args.self.now in
     let k = c.requires.kept in
     let n : ℕ = pages_of p in
     let page : ℕ = c.args.page in
-    let split : has_split t.slice page ≡ true = sym c.is_sliced.ensures.split ∙ c.if-is_sliced.true in
+    let split : has_split t.slice page ≡ true = sym c.is_split.ensures.split ∙ c.if-is_split.true in
     let sums : sum (by_page c.add.new.self n) ≡ sum c.add.new.self.counts =
     ap (λ (s : SplitSlice). sum (by_page s n)) c.add.ensures.counted
     ∙ sum-written t.slice n page (likes_in t.slice page + 1) (sum c.add.new.self.counts) k.slice split c.requires.there
@@ -30,21 +30,21 @@ returns-then-is_sliced-clause-kept g c =
     (omega (arith, k.likes, k.sums, sums, c.add.ensures.total, c.count.ensures.likes))
     (omega (arith, k.likes, c.requires.fits, c.count.ensures.likes))
 
-pub returns-then-is_sliced-clause-counts : goal.returns-then-is_sliced-clause-counts
-returns-then-is_sliced-clause-counts g c =
+pub returns-then-is_split-clause-counts : goal.returns-then-is_split-clause-counts
+returns-then-is_split-clause-counts g c =
     let p = g.P.Post.view c.args.post.now in
     let t = c.args.self.now in
     let k = c.requires.kept in
     let n : ℕ = pages_of p in
     let page : ℕ = c.args.page in
     let there = c.requires.there in
-    let split : has_split t.slice page ≡ true = sym c.is_sliced.ensures.split ∙ c.if-is_sliced.true in
+    let split : has_split t.slice page ≡ true = sym c.is_split.ensures.split ∙ c.if-is_split.true in
     let had = get_or-by_page t.slice n page 0 there in
     let likes : by_page c.add.new.self n ≡ set (by_page t.slice n) page (get_or (by_page t.slice n) page 0 + 1) =
     ap (λ (s : SplitSlice). by_page s n) c.add.ensures.counted
     ∙ by_page-with_likes t.slice n page (likes_in t.slice page + 1) k.slice split there
     ∙ ap (λ (x : ℕ). set (by_page t.slice n) page (x + 1)) (sym had) in (
-      sym (c.is_sliced.ensures.sliced p k c.requires.running there) ∙ c.if-is_sliced.true,
+      sym (c.is_split.ensures.at_post p k c.requires.running there) ∙ c.if-is_split.true,
       λ i. record (view_of (g.P.Post.board c.args.post.now) p t) {
         slice = likes i;
         sliced = c.then-self.ensures i;
@@ -70,7 +70,7 @@ returns-clause-kept g c =
 pub returns-clause-counts : goal.returns-clause-counts
 returns-clause-counts g c =
     let p = g.P.Post.view c.args.post.now in (
-      sym (c.is_sliced.ensures.sliced p c.requires.kept c.requires.running c.requires.there) ∙ c.if-is_sliced.false,
+      sym (c.is_split.ensures.at_post p c.requires.kept c.requires.running c.requires.there) ∙ c.if-is_split.false,
       λ m. view_of (c.add-2.ensures.board m) (c.add-2.ensures.view m)
           (record (c.args.self.now) { likes = c.count-2.new.self; last = c.set_at-2.ensures.table m }),
     )

@@ -43,7 +43,7 @@ returns-clause-merges g c =
     let number : ℕ = number_of (g.P.Post.view c.add-old.new.self) in
     let posts : g.P.Post.view c.add-old.new.self ≡ added p page old (get_or (by_page t.slice n) page 0) number =
     c.add-old.ensures.view ∙ ap (λ (k : ℕ). added p page old k number) likes in
-    let slices : by_page c.take-likes.new.self (pages_of (g.P.Post.view c.add-old.new.self))
+    let is_split_at : by_page c.take-likes.new.self (pages_of (g.P.Post.view c.add-old.new.self))
     ≡ set (by_page t.slice n) page 0 =
     ap (λ (q : WorkerSeatView). by_page c.take-likes.new.self (pages_of q)) c.add-old.ensures.view
     ∙ ap (λ (s : SplitSlice). by_page s n) c.take-likes.ensures.emptied
@@ -54,6 +54,6 @@ returns-clause-merges g c =
       merged = λ i. record (view_of (g.P.Post.board c.args.post.now) p t) {
         board = c.add-old.ensures.board i;
         post = posts i;
-        slice = slices i;
+        slice = is_split_at i;
       };
     }

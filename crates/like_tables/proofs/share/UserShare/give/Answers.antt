@@ -9,34 +9,34 @@ pub loop-page-init : goal.loop-page-init
 loop-page-init c = record {
   given = IsGiven-none _ _ _;
   at = λ some.
-      let first = IsAt-first c.args.self.now c.requires.places.lawful (omega (arith, c.requires.places.enough)) in
+      let first = IsAt-first c.args.self.now c.requires.ranks.lawful (omega (arith, c.requires.ranks.enough)) in
       rw (ap (λ (s : Share). s.worker) c.self.view_is) first;
 }
 
 pub overflow_add-round : goal.overflow_add-round
 overflow_add-round c =
     let there = IsAt-there _ _ _ _ (c.loop-page.invariant.at c.loop-page-test.true)
-    (omega (arith, c.requires.places.enough)) in
+    (omega (arith, c.requires.ranks.enough)) in
     let lt = rw (← c.self.view_is) at there in
     omega arith
 
 pub bounds-last-round : goal.bounds-last-round
 bounds-last-round c =
     let there = IsAt-there _ _ _ _ (c.loop-page.invariant.at c.loop-page-test.true)
-    (omega (arith, c.requires.places.enough)) in
+    (omega (arith, c.requires.ranks.enough)) in
     omega (arith, c.requires.users)
 
 pub offset_bounds-last-round : goal.offset_bounds-last-round
 offset_bounds-last-round c =
     let there = IsAt-there _ _ _ _ (c.loop-page.invariant.at c.loop-page-test.true)
-    (omega (arith, c.requires.places.enough)) in
+    (omega (arith, c.requires.ranks.enough)) in
     let lt = rw (← c.self.view_is) at there in
     omega arith
 
 pub overflow_add-round-then-submitter-submitters : goal.overflow_add-round-then-submitter-submitters
 overflow_add-round-then-submitter-submitters c =
     let there = IsAt-there _ _ _ _ (c.loop-page.invariant.at c.loop-page-test.true)
-    (omega (arith, c.requires.places.enough)) in
+    (omega (arith, c.requires.ranks.enough)) in
     let lt = rw (← c.self.view_is) at there in
     omega arith
 
@@ -50,7 +50,7 @@ loop-page-preserved c =
     let worker : c.self.inside.worker ≡ c.args.self.now.worker = ap (λ (s : Share). s.worker) c.self.view_is in
     record {
       given = IsGiven-more _ _ _ c.loop-page.last _ _ c.loop-page.page-index _ i.given at
-          (omega (arith, c.requires.places.enough, c.loop-page-test.true)) (omega (arith, c.requires.users))
+          (omega (arith, c.requires.ranks.enough, c.loop-page-test.true)) (omega (arith, c.requires.users))
           (c.page.ensures
           ∙ get_or_read c.args.pages.now c.loop-page.page-index c.page-item.result c.loop-page-test.true c.page-item.is
           None);

@@ -1,5 +1,5 @@
 use Rattle.std.proofs.Common.{◌<◌, length}
-use Rattle.like_tables.specs.Places.{IsGiven}
+use Rattle.like_tables.specs.Ranks.{IsGiven}
 use Rattle.like_tables.proofs.Walk.{IsAt}
 use Rattle.like_tables.proofs.share.UserShare.give.Given as goal
 

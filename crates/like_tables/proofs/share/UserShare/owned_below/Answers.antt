@@ -1,5 +1,5 @@
 use Rattle.std.proofs.Common.{arith}
-use Rattle.like_tables.proofs.Homes.{read-place, read-rounds-le}
+use Rattle.like_tables.proofs.Homes.{read-rank, read-rounds-le}
 use Rattle.like_tables.proofs.Owned.{owned_below-le}
 use Rattle.like_tables.proofs.share.UserShare.owned_below.Goals as goal
 
@@ -10,10 +10,10 @@ overflow_mul-result c =
 
 pub overflow_add-result : goal.overflow_add-result
 overflow_add-result c =
-    let place = rw c.self.view_is at
-    (read-place _ _ c.args.user _ _ c.self.invariant c.index.ensures c.index-2.ensures) in
-    omega (arith, place, owned_below-le c.args.self.now c.args.user)
+    let rank = rw c.self.view_is at
+    (read-rank _ _ c.args.user _ _ c.self.invariant c.index.ensures c.index-2.ensures) in
+    omega (arith, rank, owned_below-le c.args.self.now c.args.user)
 
 pub returns : goal.returns
 returns c =
-    rw (← c.self.view_is) (read-place _ _ c.args.user _ _ c.self.invariant c.index.ensures c.index-2.ensures)
+    rw (← c.self.view_is) (read-rank _ _ c.args.user _ _ c.self.invariant c.index.ensures c.index-2.ensures)

@@ -1,4 +1,4 @@
-use Rattle.like_tables.proofs.Places.{IsUserTable-table_of}
+use Rattle.like_tables.proofs.Ranks.{IsUserTable-table_of}
 use Rattle.like_tables.proofs.users.Users.owns.Goals as goal
 
 pub returns-clause-table : goal.returns-clause-table

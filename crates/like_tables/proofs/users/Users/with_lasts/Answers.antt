@@ -3,7 +3,7 @@ use Rattle.std.proofs.lemmas.Bool.{eqb-true}
 use Rattle.std.proofs.lemmas.List.{nil_from_length, with_items_is}
 use Rattle.like_tables.specs.Share.{IsShare, Share, share_of}
 use Rattle.like_tables.specs.UserTable.{UserTable, table_with_lasts}
-use Rattle.like_tables.proofs.Places.{table_of-taken, without-lasts}
+use Rattle.like_tables.proofs.Ranks.{table_of-taken, without-lasts}
 use Rattle.like_tables.proofs.users.Users.with_lasts.Goals as goal
 use Rattle.like_tables.proofs.users.Users.with_lasts.Goals.{then-not-is_empty, else-not-is_empty}
 

@@ -2,6 +2,6 @@ use Rattle.std.proofs.Common.{◌≡◌, ℕ, ◌+◌, ◌<◌, None, get_or, sl
 use Rattle.like_tables.specs.LastLike.{page_or_none}
 use Rattle.like_tables.proofs.users.Users.write_lasts.Given as goal
 
-abbrev pub invariant-loop-place : goal.invariant-loop-place
-invariant-loop-place l =
-    (i : ℕ) → i < l.place → slice_index l.row i ≡ page_or_none (get_or l.self-inside.pages.items (l.from + i) None)
+abbrev pub invariant-loop-rank : goal.invariant-loop-rank
+invariant-loop-rank l =
+    (i : ℕ) → i < l.rank → slice_index l.row i ≡ page_or_none (get_or l.self-inside.pages.items (l.from + i) None)

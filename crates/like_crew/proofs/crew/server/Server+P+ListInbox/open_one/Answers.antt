@@ -3,7 +3,7 @@ use Rattle.std.proofs.lemmas.List.{length-map}
 use Rattle.like_queue.specs.Inbox.{view_of}
 use Rattle.like_roles.specs.worker.Work.{worker_at}
 use Rattle.like_crew.specs.Server.{ServerView}
-use Rattle.like_crew.specs.ServerTurns.{OpensOne, place_at}
+use Rattle.like_crew.specs.ServerTurns.{OpensOne, rank_at}
 use Rattle.like_crew.proofs.servers.Boards.{at-board}
 use Rattle.like_crew.proofs.servers.Opened.{goes-one, opened_of}
 use Rattle.like_crew.proofs.crew.server.Server+P+ListInbox.open_one.Goals as goal
@@ -15,7 +15,7 @@ pub open_one-requires-clause-there : goal.open_one-requires-clause-there
 open_one-requires-clause-there g c =
     let lists = c.self.inside.serving.inboxes.items in
     let required : c.args.submitter / (worker_at (g.P.Post.view c.self.inside.post) c.self.inside.serving.work).last.share.workers < length (map view_of lists) =
-    subst (λ (s : ServerView). place_at s c.args.submitter < length s.inboxes) (sym c.self.view_is) c.requires in
+    subst (λ (s : ServerView). rank_at s c.args.submitter < length s.inboxes) (sym c.self.view_is) c.requires in
     let same = ap (λ n. c.args.submitter / n) c.self.invariant.workers in
     omega (arith, required, same, length-map lists view_of)
 

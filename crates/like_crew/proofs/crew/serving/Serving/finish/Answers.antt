@@ -23,6 +23,6 @@ returns g c = λ board post h gone.
       rising = subst (AllPairs (λ (t u : Took). t.phase ≤ u.phase)) (sym told.taken) h.agree.rising;
       above = subst (λ (taken : List Took). NoneAbove post.last taken) (sym told.taken) h.agree.above;
       each = λ workload works masks.
-          let done = follows-done workload worker (works.follows masks) gone h.ready.sound.seat.split in
+          let done = follows-done workload worker (works.follows masks) gone h.ready.sound.station.split in
           (takes-plans workload s h.agree works done, done);
     }

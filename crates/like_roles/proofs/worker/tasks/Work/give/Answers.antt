@@ -5,10 +5,10 @@ use Rattle.like_roles.proofs.worker.tasks.Work.give.Goals as goal
 
 pub returns-clause-follows : goal.returns-clause-follows
 returns-clause-follows g c = λ workload asked f.
-    let seat = c.requires.ready.sound.seat in
+    let station = c.requires.ready.sound.station in
     follows-give workload (worker_at (g.P.Post.view c.args.post.now) c.args.self.now) c.args.taken c.take_given.result
-    (worker_at (g.P.Post.view c.take_given.new.post) c.take_given.new.self) c.requires.next asked seat.split seat.masked
-    c.take_given.ensures.idle.settled.sound.seat.waiting.within c.take_given.ensures.case f
+    (worker_at (g.P.Post.view c.take_given.new.post) c.take_given.new.self) c.requires.next asked station.split station.masked
+    c.take_given.ensures.idle.settled.sound.station.waiting.within c.take_given.ensures.case f
 
 pub returns-clause-takes : goal.returns-clause-takes
 returns-clause-takes g c =

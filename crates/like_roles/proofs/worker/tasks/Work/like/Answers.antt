@@ -12,8 +12,8 @@ returns-in-Some g c =
     let s = kept.view_of (g.P.Post.board c.args.post.now) (g.P.Post.view c.args.post.now) c.args.self.now.tables in
     let t = kept.view_of (g.P.Post.board c.count_like.new.post) (g.P.Post.view c.count_like.new.post) c.count_like.new.self in
     let counts = subst (λ r. CountsLike s c.args.user c.args.page r t) c.in-Some.is c.count_like.ensures.counts in
-    let all = liked-board s t c.args.self.now.desk c.note_addition.new.self c.args.user c.args.page c.phase-phase.result
-    c.in-Some.old c.requires.idle.settled c.requires.room c.count_like.ensures.kept.seat counts
+    let all = liked-board s t c.args.self.now.ledger c.note_addition.new.self c.args.user c.args.page c.phase-phase.result
+    c.in-Some.old c.requires.idle.settled c.requires.room c.count_like.ensures.kept.station counts
     (c.phase-phase.ensures ∙ sym (ap phase_of c.requires.idle.kept.state))
     c.note_addition.ensures in
     record {
@@ -28,8 +28,8 @@ returns-in_default g c =
     let s = kept.view_of (g.P.Post.board c.args.post.now) (g.P.Post.view c.args.post.now) c.args.self.now.tables in
     let t = kept.view_of (g.P.Post.board c.count_like.new.post) (g.P.Post.view c.count_like.new.post) c.count_like.new.self in
     let counts = subst (λ r. CountsLike s c.args.user c.args.page r t) c.in_default.is c.count_like.ensures.counts in
-    let all = liked-slice s t c.args.self.now.desk c.args.user c.args.page c.requires.idle.settled c.requires.room
-    c.count_like.ensures.kept.seat c.requires.there counts in
+    let all = liked-slice s t c.args.self.now.ledger c.args.user c.args.page c.requires.idle.settled c.requires.room
+    c.count_like.ensures.kept.station c.requires.there counts in
     record {
       idle = record { kept = c.count_like.ensures.kept; settled = all.0 };
       room = all.1;

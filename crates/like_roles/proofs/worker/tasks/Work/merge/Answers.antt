@@ -16,25 +16,25 @@ use Rattle.like_tables.specs.Liked.{IsNextLiked}
 use Rattle.std.proofs.lemmas.List.Sums.{sum_by-set}
 use Rattle.like_seat.proofs.WholeMerge.{merge_of}
 use Rattle.like_roles.proofs.PageOrder.{AreUnliked-run, IsNextLiked-run, Merging-done, Merging-next, Merging-start}
-use Rattle.like_roles.specs.declared.worker.desk.Desk.{Desk}
-use Rattle.like_roles.specs.worker.Desk.{IsSettled}
+use Rattle.like_roles.specs.declared.worker.ledger.Ledger.{Ledger}
+use Rattle.like_roles.specs.worker.Ledger.{IsSettled}
 use Rattle.like_roles.specs.worker.WorkerView.{WorkerView}
 use Rattle.like_roles.proofs.Counting.{merged-settled}
 use Rattle.like_roles.proofs.Merging.{HaveNoted-more, HaveNoted-none, IsMerged-noted}
 use Rattle.like_roles.proofs.worker.tasks.Work.merge.Goals as goal
 
 -- a run has no more pages than there are buckets
-few_pages : (s : StationView Held) (d : Desk) → IsSettled s d → length s.slice ≤ buckets
+few_pages : (s : StationView Held) (d : Ledger) → IsSettled s d → length s.slice ≤ buckets
 few_pages s d is =
     let most : s.post.opening.limits.pages ≡ max_pages = ap (λ (l : Limits). l.pages) is.sound.run in
-    omega (arith, is.sound.seat.sized, is.sound.seat.few_pages, most)
+    omega (arith, is.sound.station.sized, is.sound.station.few_pages, most)
 
 -- and there page i has bucket i
-in_run : (s : StationView Held) (d : Desk) → IsSettled s d → s.post.opening.factor ≡ run_factor
-in_run s d is = is.sound.seat.factor (ap (λ (l : Limits). has_slots l) is.sound.run)
+in_run : (s : StationView Held) (d : Ledger) → IsSettled s d → s.post.opening.factor ≡ run_factor
+in_run s d is = is.sound.station.factor (ap (λ (l : Limits). has_slots l) is.sound.run)
 
 -- there the next page that is merged is the next that has likes
-next_liked : (s t : StationView Held) (d : Desk) (from : ℕ) (m : Merged)
+next_liked : (s t : StationView Held) (d : Ledger) (from : ℕ) (m : Merged)
     → IsSettled s d
     → MergesPage s from m t
     → IsNextLiked s.slice from m.page
@@ -46,7 +46,7 @@ pub merge_next-requires-clause-within : goal.merge_next-requires-clause-within
 merge_next-requires-clause-within g c =
     let l = c.loop-merged in
     let s = kept.view_of (g.P.Post.board l.post) (g.P.Post.view l.post) l.self.tables in
-    omega (arith, l.invariant.within, few_pages s l.self.desk l.invariant.idle.settled)
+    omega (arith, l.invariant.within, few_pages s l.self.ledger l.invariant.idle.settled)
 
 pub merge_next-requires-clause-split : goal.merge_next-requires-clause-split
 merge_next-requires-clause-split g c =
@@ -80,7 +80,7 @@ loop-merged-smaller g c =
     let now = c.merge_next.new in
     let t = kept.view_of (g.P.Post.board now.post) (g.P.Post.view now.post) now.self in
     let merges = subst (λ r. MergesNext s l.from r t) c.in-Some.is c.merge_next.ensures.merges in
-    let next = next_liked s t l.self.desk l.from c.in-Some.merged l.invariant.idle.settled merges in
+    let next = next_liked s t l.self.ledger l.from c.in-Some.merged l.invariant.idle.settled merges in
     omega (arith, l.invariant.merging.1.0.sized, next.after, next.there)
 
 pub overflow_add-from : goal.overflow_add-from
@@ -90,7 +90,7 @@ overflow_add-from g c =
     let now = c.merge_next.new in
     let t = kept.view_of (g.P.Post.board now.post) (g.P.Post.view now.post) now.self in
     let merges = subst (λ r. MergesNext s l.from r t) c.in-Some.is c.merge_next.ensures.merges in
-    let few = few_pages s l.self.desk l.invariant.idle.settled in
+    let few = few_pages s l.self.ledger l.invariant.idle.settled in
     omega (arith, merges.next.there, few)
 
 pub returns : goal.returns
@@ -103,15 +103,15 @@ returns g c =
     let t = kept.view_of (g.P.Post.board now.post) (g.P.Post.view now.post) now.self in
     let adds = i.merging.0 in
     let done = subst (λ r. MergesNext s l.from r t) c.in_default.is c.merge_next.ensures.merges in
-    let none = subst (λ f. NoneFrom f s.slice l.from) (in_run s l.self.desk i.idle.settled) done.0 in
-    let rest = AreUnliked-run s.slice l.from (few_pages s l.self.desk i.idle.settled) none in
+    let none = subst (λ f. NoneFrom f s.slice l.from) (in_run s l.self.ledger i.idle.settled) done.0 in
+    let rest = AreUnliked-run s.slice l.from (few_pages s l.self.ledger i.idle.settled) none in
     let whole = Merging-done first s t l.from adds i.merging.1.0 i.within rest done.1
-    c.requires.idle.settled.sound.seat.sized in
-    let merged = IsMerged-noted first t c.args.self.now.desk l.self.desk adds whole.0 whole.1 whole.2 i.merging.1.1 in
+    c.requires.idle.settled.sound.station.sized in
+    let merged = IsMerged-noted first t c.args.self.now.ledger l.self.ledger adds whole.0 whole.1 whole.2 i.merging.1.1 in
     record {
       idle = record {
         kept = c.merge_next.ensures.kept;
-        settled = subst (λ (x : StationView Held). IsSettled x l.self.desk) (sym done.1) i.idle.settled;
+        settled = subst (λ (x : StationView Held). IsSettled x l.self.ledger) (sym done.1) i.idle.settled;
       };
       board = ap (λ (x : StationView Held). x.board) (done.1 ∙ i.merging.1.0.rest);
       empty = λ page _ _.
@@ -127,7 +127,7 @@ loop-merged-init g c = record {
     [],
     (
       Merging-start (kept.view_of (g.P.Post.board c.args.post.now) (g.P.Post.view c.args.post.now) c.args.self.now.tables),
-      HaveNoted-none c.args.self.now.desk,
+      HaveNoted-none c.args.self.now.ledger,
     ),
   );
 }
@@ -139,7 +139,7 @@ loop-merged-preserved g c =
     let s = kept.view_of (g.P.Post.board l.post) (g.P.Post.view l.post) l.self.tables in
     let now = c.merge_next.new in
     let t = kept.view_of (g.P.Post.board now.post) (g.P.Post.view now.post) now.self in
-    let d = l.self.desk in
+    let d = l.self.ledger in
     let e = c.note_addition.new.self in
     let i = l.invariant in
     let adds = i.merging.0 in
@@ -154,14 +154,14 @@ loop-merged-preserved g c =
     record {
       idle = record {
         kept = c.merge_next.ensures.kept;
-        settled = merged-settled s t d e l.from c.phase-phase.result m i.idle.settled c.merge_next.ensures.kept.seat merges noted;
+        settled = merged-settled s t d e l.from c.phase-phase.result m i.idle.settled c.merge_next.ensures.kept.station merges noted;
       };
       within = omega (arith, sized, merges.next.there);
       merging = (
         adds ++ merge_of s m.page m.old ∷ [],
         (
           Merging-next first s t l.from m.page m.old (number_of t.post) adds i.merging.1.0 next merges.merged,
-          HaveNoted-more s c.args.self.now.desk d e adds c.phase-phase.result m.page m.old m.likes i.merging.1.1 noted
+          HaveNoted-more s c.args.self.now.ledger d e adds c.phase-phase.result m.page m.old m.likes i.merging.1.1 noted
               phase_is merges.likes,
         ),
       );

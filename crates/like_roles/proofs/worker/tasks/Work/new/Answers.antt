@@ -18,11 +18,11 @@ use Rattle.like_seat.specs.StationView.{StationView}
 use Rattle.like_seat.specs.Steps.{IsNewStation}
 use Rattle.like_tables.specs.Share.{share_of}
 use Rattle.like_tables.specs.UserTable.{UserTable, table_without_likes}
-use Rattle.like_tables.specs.Waiting.{Waiting}
+use Rattle.like_tables.specs.StashView.{StashView}
 use Rattle.like_tables.specs.declared.held.Held.{Held}
 use Rattle.like_roles.specs.declared.terms.Terms.{Terms}
-use Rattle.like_roles.specs.declared.worker.desk.Desk.{Desk}
-use Rattle.like_roles.specs.worker.Desk.{HasSubmitters, IsNewDesk, IsOwn, IsSound, view_of}
+use Rattle.like_roles.specs.declared.worker.ledger.Ledger.{Ledger}
+use Rattle.like_roles.specs.worker.Ledger.{HasSubmitters, IsNewLedger, IsOwn, IsSound, view_of}
 use Rattle.like_roles.specs.worker.New.{IsNew, IsPostOf}
 use Rattle.like_roles.proofs.Started.{follows-new}
 use Rattle.like_roles.proofs.worker.tasks.Work.new.Goals as goal
@@ -31,14 +31,14 @@ use Rattle.like_roles.proofs.worker.tasks.Work.new.Goals as goal
 pages_are : (worker : ℕ) (s : Setup) (post : WorkerSeatView) → IsPostOf worker s.pages post → pages_of post ≡ length s.pages
 pages_are worker s post p = ap (λ (xs : List Bool). length xs) p.opening.marks ∙ length-map s.pages (λ q. q.split)
 
--- a new seat at its post and a new desk make a new worker
+-- a new station at its post and a new ledger make a new worker
 new_worker : (s : Setup) (terms : Terms) (worker : ℕ) (post : WorkerSeatView) (last : UserTable)
-    (seat : StationView Held) (d : Desk) → IsPostOf worker s.pages post → IsNewStation [] post s.stash last seat
+    (station : StationView Held) (d : Ledger) → IsPostOf worker s.pages post → IsNewStation [] post s.stash last station
     → last ≡ table_without_likes (share_of s.users (length terms.sizes.now) s.workers worker)
-    → IsNewDesk s terms worker d → IsNew s terms worker post (view_of seat d)
-new_worker s terms worker post last seat d p n users k = record {
+    → IsNewLedger s terms worker d → IsNew s terms worker post (view_of station d)
+new_worker s terms worker post last station d p n users k = record {
   at_post = n.at_post;
-  held = n.held;
+  stash = n.stash;
   slice = n.slice ∙ ap (λ (x : ℕ). replicate x 0) (pages_are worker s post p);
   sliced = n.sliced;
   left = k.left;
@@ -54,25 +54,25 @@ new_worker s terms worker post last seat d p n users k = record {
 
 -- which is sound
 new_sound : (s : Setup) (terms : Terms) (worker : ℕ) (post : WorkerSeatView) (last : UserTable)
-    (seat : StationView Held) (d : Desk) → IsPostOf worker s.pages post → IsNewStation [] post s.stash last seat
+    (station : StationView Held) (d : Ledger) → IsPostOf worker s.pages post → IsNewStation [] post s.stash last station
     → last ≡ table_without_likes (share_of s.users (length terms.sizes.now) s.workers worker)
-    → IsNewDesk s terms worker d → worker < s.workers → IsSound seat d
-new_sound s terms worker post last seat d p n users k is_worker =
-    let held : seat.held.held ≡ [] = ap (λ (x : Waiting Held). x.held) n.held in
-    let none : length seat.held.held ≡ 0 = ap (λ (xs : List Held). length xs) held in
-    let zeros : sum seat.slice ≡ 0 = ap (λ (xs : List ℕ). sum xs) n.slice ∙ sum-zeros (length post.opening.marks) in
-    let additions : all_added (additions_among seat.post.did) ≡ 0 =
+    → IsNewLedger s terms worker d → worker < s.workers → IsSound station d
+new_sound s terms worker post last station d p n users k is_worker =
+    let stashed : station.stash.looks ≡ [] = ap (λ (x : StashView Held). x.looks) n.stash in
+    let none : length station.stash.looks ≡ 0 = ap (λ (xs : List Held). length xs) stashed in
+    let zeros : sum station.slice ≡ 0 = ap (λ (xs : List ℕ). sum xs) n.slice ∙ sum-zeros (length post.opening.marks) in
+    let additions : all_added (additions_among station.post.did) ≡ 0 =
     ap (λ (x : WorkerSeatView). all_added (additions_among x.did)) (n.at_post ∙ p.fresh) in
     let sized : length d.ended.items ≡ length d.left.items =
     ap (λ (xs : List Bool). length xs) k.ended ∙ length-replicate (length d.left.items) false in
     record {
-      seat = n.is;
+      station = n.is;
       run = ap (λ (x : WorkerSeatView). x.opening.limits) n.at_post ∙ p.opening.limits;
       started = k.started ∙ ap is_some (sym (ap (λ (x : WorkerSeatView). x.last) (n.at_post ∙ p.fresh)));
-      places = subst (λ (t : UserTable). HasSubmitters t.share d) (sym (n.last ∙ users)) (record {
+      ranks = subst (λ (t : UserTable). HasSubmitters t.share d) (sym (n.last ∙ users)) (record {
         is_worker = is_worker;
         sized = omega (arith, d.left.ok.0, d.ended.ok.0, sized);
-        submitters = λ place inside. k.there place (omega (arith, d.ended.ok.0, sized, inside));
+        submitters = λ rank inside. k.there rank (omega (arith, d.ended.ok.0, sized, inside));
         cursor = omega (arith, k.cursor);
       });
       room = record {
@@ -85,8 +85,8 @@ new_sound s terms worker post last seat d p n users k is_worker =
             omega (arith, full, d.adds.ok.0, ap length k.adds, none, zeros));
         few = omega (arith, k.few, none, zeros, additions);
       };
-      held = subst (λ xs. All (IsOwn seat) xs) (sym held) (All-nil (IsOwn seat));
-      tried = λ place is. absurd (cc (k.pending, is));
+      stashed = subst (λ xs. All (IsOwn station) xs) (sym stashed) (All-nil (IsOwn station));
+      tried = λ rank is. absurd (cc (k.pending, is));
     }
 
 -- a new post of a worker is one of a run with these marks
@@ -111,18 +111,18 @@ returns c =
     let s = c.args.setup.now in
     let marks = c.in_ok-marks.ensures in
     let tables = c.in_ok-tables.ensures in
-    let d = c.in_ok-desk.desk in
+    let d = c.in_ok-ledger.ledger in
     let of_run = λ (post : WorkerSeatView) (p : IsPostOf c.args.worker s.pages post).
     new_post c.args.worker s.pages c.in_ok-marks.marks.items post marks.marks marks.pages.entries.few p in
     let new = λ (post : WorkerSeatView) (p : IsPostOf c.args.worker s.pages post).
     new_worker s c.args.terms c.args.worker post c.in_ok-last.last (kept.view_of [] post c.in_ok-tables.tables) d p
-    (tables.new [] post (of_run post p)) c.in_ok-last.ensures c.in_ok-desk.ensures in
+    (tables.new [] post (of_run post p)) c.in_ok-last.ensures c.in_ok-ledger.ensures in
     record {
       ready = λ post p. record {
         kept = tables.kept post (of_run post p);
         sound = new_sound s c.args.terms c.args.worker post c.in_ok-last.last
             (kept.view_of [] post c.in_ok-tables.tables) d p (tables.new [] post (of_run post p)) c.in_ok-last.ensures
-            c.in_ok-desk.ensures c.requires.is_worker;
+            c.in_ok-ledger.ensures c.requires.is_worker;
       };
       new = new;
       follows = λ post p workload same.

@@ -10,15 +10,15 @@ use Rattle.like_seat.proofs.Looking.{saw-waiting}
 use Rattle.like_tables.specs.declared.held.Held.{Held}
 use Rattle.like_roles.specs.declared.turn.Turn.{Turn}
 use Rattle.like_roles.specs.declared.turn.Turn.TheVariants.{Waiting}
-use Rattle.like_roles.specs.declared.worker.desk.Desk.{Desk}
-use Rattle.like_roles.specs.worker.Desk.{view_of}
+use Rattle.like_roles.specs.declared.worker.ledger.Ledger.{Ledger}
+use Rattle.like_roles.specs.worker.Ledger.{view_of}
 use Rattle.like_roles.specs.worker.Turns.{Turns, Works, saw, waits, works}
 use Rattle.like_roles.specs.worker.WorkerView.{WorkerView}
-use Rattle.like_roles.specs.worker.Work.{seat_at, worker_at}
+use Rattle.like_roles.specs.worker.Work.{station_at, worker_at}
 use Rattle.like_roles.proofs.worker.tasks.Work.next_turn.Goals as goal
 
 -- a worker that looked, and has to wait
-turn-waits : (s t : StationView Held) (d e : Desk) (sight : Sight)
+turn-waits : (s t : StationView Held) (d e : Ledger) (sight : Sight)
     → Looks s sight t
     → e ≡ record d { started = true }
     → s.post.state ≢ Gone
@@ -32,7 +32,7 @@ turn-waits s t d e sight looks rest there sees stays =
     (saw_is ∙ ap (λ (p : WorkerSeatView). record v { post = p }) (saw-waiting v.post sight looks.0 (number_of t.post) stays))
 
 -- one that looked, and worked
-turn-works : (s t : StationView Held) (d e : Desk) (sight : Sight) (answer : Turn) (after : WorkerView)
+turn-works : (s t : StationView Held) (d e : Ledger) (sight : Sight) (answer : Turn) (after : WorkerView)
     → Looks s sight t
     → e ≡ record d { started = true }
     → s.post.state ≢ Gone
@@ -47,8 +47,8 @@ turn-works s t d e sight answer after looks rest there sees goes does =
 pub returns-then-sight-clause-case : goal.returns-then-sight-clause-case
 returns-then-sight-clause-case g c =
     let look = c.look-sight in
-    turn-waits (seat_at (g.P.Post.view c.args.post.now) c.args.self.now) (seat_at (g.P.Post.view look.new.post) look.new.self)
-    c.args.self.now.desk look.new.self.desk look.result look.ensures.looks look.ensures.rest
+    turn-waits (station_at (g.P.Post.view c.args.post.now) c.args.self.now) (station_at (g.P.Post.view look.new.post) look.new.self)
+    c.args.self.now.ledger look.new.self.ledger look.result look.ensures.looks look.ensures.rest
     (λ gone. absurd (cc (c.is_gone.ensures.1 (sym c.requires.kept.state ∙ gone), c.if-is_gone.false))) look.ensures.sight
     c.if-sight.true
 
@@ -56,8 +56,8 @@ pub returns-then-phase-eq0-clause-case : goal.returns-then-phase-eq0-clause-case
 returns-then-phase-eq0-clause-case g c =
     let look = c.look-sight in
     let does = c.joined_turn in
-    turn-works (seat_at (g.P.Post.view c.args.post.now) c.args.self.now) (seat_at (g.P.Post.view look.new.post) look.new.self)
-    c.args.self.now.desk look.new.self.desk look.result does.result (worker_at (g.P.Post.view does.new.post) does.new.self)
+    turn-works (station_at (g.P.Post.view c.args.post.now) c.args.self.now) (station_at (g.P.Post.view look.new.post) look.new.self)
+    c.args.self.now.ledger look.new.self.ledger look.result does.result (worker_at (g.P.Post.view does.new.post) does.new.self)
     look.ensures.looks look.ensures.rest
     (λ gone. absurd (cc (c.is_gone.ensures.1 (sym c.requires.kept.state ∙ gone), c.if-is_gone.false))) look.ensures.sight
     c.if-sight.false does.ensures.works
@@ -66,8 +66,8 @@ pub returns-else-phase-eq0-clause-case : goal.returns-else-phase-eq0-clause-case
 returns-else-phase-eq0-clause-case g c =
     let look = c.look-sight in
     let does = c.split_turn in
-    turn-works (seat_at (g.P.Post.view c.args.post.now) c.args.self.now) (seat_at (g.P.Post.view look.new.post) look.new.self)
-    c.args.self.now.desk look.new.self.desk look.result does.result (worker_at (g.P.Post.view does.new.post) does.new.self)
+    turn-works (station_at (g.P.Post.view c.args.post.now) c.args.self.now) (station_at (g.P.Post.view look.new.post) look.new.self)
+    c.args.self.now.ledger look.new.self.ledger look.result does.result (worker_at (g.P.Post.view does.new.post) does.new.self)
     look.ensures.looks look.ensures.rest
     (λ gone. absurd (cc (c.is_gone.ensures.1 (sym c.requires.kept.state ∙ gone), c.if-is_gone.false))) look.ensures.sight
     c.if-sight.false does.ensures.works

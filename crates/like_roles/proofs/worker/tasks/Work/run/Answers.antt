@@ -1,7 +1,7 @@
 use Rattle.std.proofs.Common.{refl, ap, sym, ◌∙◌, arith}
 use Rattle.like_core.specs.WorkerState.{phase_of}
-use Rattle.like_roles.specs.declared.worker.desk.Desk.{Desk}
-use Rattle.like_roles.specs.worker.Work.{seat_at, worker_at}
+use Rattle.like_roles.specs.declared.worker.ledger.Ledger.{Ledger}
+use Rattle.like_roles.specs.worker.Work.{station_at, worker_at}
 use Rattle.like_roles.proofs.Held.{settled-ran}
 use Rattle.like_roles.proofs.Served.{GivesReply-state, Runs-noted}
 use Rattle.like_roles.proofs.worker.tasks.Work.run.Goals as goal
@@ -22,9 +22,9 @@ push_reserved-requires g c = omega (arith, c.serve-reply.ensures.room)
 pub returns-clause-idle : goal.returns-clause-idle
 returns-clause-idle g c =
     let w = c.serve-reply.new.self in
-    let e : Desk = record (w.desk) { ran = c.push_reserved.new.self } in
+    let e : Ledger = record (w.ledger) { ran = c.push_reserved.new.self } in
     record {
       kept = c.serve-reply.ensures.idle.kept;
-      settled = settled-ran (seat_at (g.P.Post.view c.serve-reply.new.post) w) w.desk e c.serve-reply.ensures.idle.settled
+      settled = settled-ran (station_at (g.P.Post.view c.serve-reply.new.post) w) w.ledger e c.serve-reply.ensures.idle.settled
           c.serve-reply.ensures.room c.push_reserved.ensures.len c.push_reserved.ensures.capacity refl;
     }

@@ -5,7 +5,7 @@ use Rattle.like_promises.proofs.Asked.{HasPageBelow, page-there}
 use Rattle.like_tables.specs.declared.held.Held.{Held}
 use Rattle.like_seat.specs.Kept as kept
 use Rattle.like_seat.specs.StationView.{StationView}
-use Rattle.like_roles.specs.worker.Desk.{HasRoomToNote, view_of}
+use Rattle.like_roles.specs.worker.Ledger.{HasRoomToNote, view_of}
 use Rattle.like_roles.specs.worker.Judged.{IsJudged}
 use Rattle.like_roles.specs.worker.Serve.{likes, looks, refuses}
 use Rattle.like_roles.proofs.Counting.{read-settled}
@@ -19,7 +19,7 @@ returns-in-Like-clause-serves g c =
 pub returns-in-Look : goal.returns-in-Look
 returns-in-Look g c =
     let t = c.args.self.now.tables in
-    let d = c.args.self.now.desk in
+    let d = c.args.self.now.ledger in
     let s = kept.view_of (g.P.Post.board c.args.post.now) (g.P.Post.view c.args.post.now) t in
     let after = c.read_for-seen.new in
     let page : ℕ = c.in-Look.page in
@@ -31,7 +31,7 @@ returns-in-Look g c =
       idle = record {
         kept = seen.kept;
         settled = read-settled s (kept.view_of (g.P.Post.board after.post) (g.P.Post.view after.post) after.self) d page
-            count c.requires.idle.settled seen.kept.seat read;
+            count c.requires.idle.settled seen.kept.station read;
       };
       room = subst (λ (x : StationView Held). HasRoomToNote x d) (sym read) c.requires.room.ran;
       board = ap (λ (x : StationView Held). x.board) read;

@@ -10,14 +10,14 @@ returns g c =
     let turn = c.next_turn in
     let w = worker_at (g.P.Post.view turn.new.post) turn.new.self in
     let untried = c.requires.untried in
-    let seat = c.requires.ready.sound.seat in
+    let station = c.requires.ready.sound.station in
     let case = turn.ensures.case in
     record {
       ready = turn.ensures.ready;
       board = turn.ensures.board;
       case = case;
       follows = λ workload right f.
-          follows-turn workload v turn.result w untried seat.split seat.masked right case f;
+          follows-turn workload v turn.result w untried station.split station.masked right case f;
       takes = turns-keeps v turn.result w case;
       pending = turns-pends v turn.result w untried case;
       retired = turns-retired v turn.result w case;

@@ -4,7 +4,7 @@ use Rattle.like_core.specs.Post.{pages_of}
 use Rattle.like_core.specs.WorkerState.{RunsSplit, phase_of}
 use Rattle.like_core.specs.PageSteps.{additions_among}
 use Rattle.like_tables.specs.SplitSlice.{SplitSlice, by_page}
-use Rattle.like_tables.specs.Waiting.{IsWaiting, Waiting}
+use Rattle.like_tables.specs.StashView.{IsStash, StashView}
 use Rattle.std.proofs.lemmas.List.{length-replicate}
 use Rattle.like_limits.specs.Buckets.{buckets}
 use Rattle.like_tables.proofs.Tagged.{bucket-lt}
@@ -29,7 +29,7 @@ invariant_of-result g c =
     (λ plain. absurd (cc (plain, c.requires.service.slotted))) (λ slotted. c.requires.service)
     ((ap (λ v. v.state) c.requires.fresh) ∙ sym e.state) (omega (arith, e.likes, none, added)) (omega (arith, e.likes))
     c.requires.few_pages c.requires.limits (omega (arith, phase))
-    (subst (λ (w : Waiting g.row.W.Denot). IsWaiting w) (sym e.held)
+    (subst (λ (w : StashView g.row.W.Denot). IsStash w) (sym e.stash)
     (record { some = c.requires.some; few = c.requires.few; within = omega arith }))
 
 pub returns-in-Ok-clause-new : goal.returns-in-Ok-clause-new
@@ -37,10 +37,10 @@ returns-in-Ok-clause-new g c =
     let e = c.in-Ok.ensures in
     let n : ℕ = pages_of (g.P.Post.view c.args.post) in
     record {
-      is = (invariant_of-result g c).seat;
+      is = (invariant_of-result g c).station;
       at_board = refl;
       at_post = refl;
-      held = e.held;
+      stash = e.stash;
       slice = ap (λ (s : SplitSlice). by_page s n) e.slice ∙ by_page-no_slice c.args.factor buckets n;
       sliced = e.sliced;
       last = e.last;

@@ -4,7 +4,7 @@ use Rattle.like_board.specs.Own.{own_view}
 use Rattle.like_queue.specs.Inbox.{view_of}
 use Rattle.like_roles.specs.worker.Work.{worker_at}
 use Rattle.like_crew.specs.OwnServer.{OwnServerView}
-use Rattle.like_crew.specs.ServerTurns.{OpensOne, place_at}
+use Rattle.like_crew.specs.ServerTurns.{OpensOne, rank_at}
 use Rattle.like_crew.proofs.servers.Boards.{at-board}
 use Rattle.like_crew.proofs.servers.Opened.{goes-one, opened_of}
 use Rattle.like_crew.proofs.crew.server.own_server.OwnServer+ListInbox.open_one.Goals as goal
@@ -16,7 +16,7 @@ pub open_one-requires-clause-there : goal.open_one-requires-clause-there
 open_one-requires-clause-there c =
     let lists = c.self.inside.serving.inboxes.items in
     let required : c.args.submitter / (worker_at (own_view c.self.inside.seat) c.self.inside.serving.work).last.share.workers < length (map view_of lists) =
-    subst (λ (s : OwnServerView). place_at s.server c.args.submitter < length s.server.inboxes) (sym c.self.view_is) c.requires in
+    subst (λ (s : OwnServerView). rank_at s.server c.args.submitter < length s.server.inboxes) (sym c.self.view_is) c.requires in
     let same = ap (λ n. c.args.submitter / n) c.self.invariant.workers in
     omega (arith, required, same, length-map lists view_of)
 
