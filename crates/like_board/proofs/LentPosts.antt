@@ -1,5 +1,6 @@
 -- A post after a step of its seat.
 use Rattle.std.proofs.Common.{◌≡◌, ℕ, ◌≤◌, List, [], ◌∷◌, ◌++◌, subst, ap, ◌∙◌, arith}
+use Rattle.std.specs.Prelude.{slice_set}
 use mathlib.Core.Option.{Option}
 use lib.ListN.{get_elem?}
 use Rattle.like_core.specs.declared.view.Look.{Look}
@@ -11,7 +12,7 @@ use Rattle.like_board.specs.declared.own_board.lent_post.LentPost.{LentPost}
 use Rattle.like_board.specs.declared.own_board.worker_seat.OwnWorkerSeat.{OwnWorkerSeat}
 use Rattle.like_board.specs.Known.{worker_view_of}
 use Rattle.like_board.specs.Lent.{HasLooked, ShowsBy, lent_board}
-use Rattle.like_board.specs.Lending.{AreLent, CameBack}
+use Rattle.like_board.specs.Lending.{AreLent}
 use Rattle.like_board.specs.LentPost.{lent_numbers}
 use Rattle.like_board.specs.Own.{Steps, own_place, own_view, own_views}
 use Rattle.like_board.proofs.Lending.{board_after, first_after, known_after, lent_tells, looked_more, looked_same}
@@ -61,6 +62,14 @@ module _ (p : LentPost) (board : OwnBoard) (seat : OwnWorkerSeat) (same : own_pl
   numbers_after = ap (λ ns. p.board.ghost_name ∷ p.seat.ghost_name ∷ ns)
       (ap (λ k. lent_board (own_views board) k p.before.me.0) same
       ∙ board_after views (own_views board) (own_place p.seat.now) (Worker (own_view seat)) p.before.me.0 steps.views)
+
+-- a board and a seat came back, lent when the seat at this place knew this: what all other seats know is the same, and
+-- each look that it made showed the phase as the coordinator knows it
+pub record CameBack (views : List View) (place : ℕ) (v : WorkerSeatView) (board : OwnBoard) (seat : OwnWorkerSeat)
+    : Type 0 where
+  pub place_is : own_place seat ≡ place
+  pub views_are : own_views board ≡ slice_set views place (Worker (own_view seat))
+  pub looked : HasLooked (get_elem? views 0) v (own_view seat)
 
 -- what was lent comes back
 pub comes_back : (p : LentPost) (views : List View) (place : ℕ) (v : WorkerSeatView)

@@ -1,7 +1,6 @@
 -- A board and a seat that are lent for a turn.
-use Rattle.std.specs.Prelude.{◌≡◌, ℕ, List, slice_set}
+use Rattle.std.specs.Prelude.{◌≡◌}
 use lib.ListN.{get_elem?}
-use Rattle.like_core.specs.declared.view.WorkerSeatView.{WorkerSeatView}
 use Rattle.like_core.specs.declared.view.View.{View}
 use Rattle.like_core.specs.declared.view.View.TheVariants.{Worker}
 use Rattle.like_board.specs.declared.own_board.OwnBoard.{OwnBoard}
@@ -15,11 +14,3 @@ pub record AreLent (board : OwnBoard) (seat : OwnWorkerSeat) (before : View) : T
   pub here : Knows board (own_place seat) (Worker (own_view seat))
   pub knew : before ≡ Worker (worker_view_of before)
   pub looked : HasLooked (get_elem? (own_views board) 0) (worker_view_of before) (own_view seat)
-
--- they came back, lent when the seat at this place knew this: what all other seats know is the same, and each look that
--- it made showed the phase as the coordinator knows it
-pub record CameBack (views : List View) (place : ℕ) (v : WorkerSeatView) (board : OwnBoard) (seat : OwnWorkerSeat)
-    : Type 0 where
-  pub place_is : own_place seat ≡ place
-  pub views_are : own_views board ≡ slice_set views place (Worker (own_view seat))
-  pub looked : HasLooked (get_elem? views 0) v (own_view seat)

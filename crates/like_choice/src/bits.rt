@@ -1,14 +1,6 @@
-ghost use Rattle.std.specs.Prelude.{◌≡◌, ◌==◌, ◌<◌, ◌^◌, ◌-◌, ◌≤◌, ◌||◌, ℕ, true, false, IfNone, IfSome};
+ghost use Rattle.std.specs.Prelude.{◌≡◌, ◌==◌, ◌<◌, ◌^◌, ◌-◌, ◌≤◌, ◌||◌, ℕ, false, IfNone, IfSome};
 ghost use Rattle.like_core.specs.Functions.{has_bit};
 ghost use Rattle.like_choice.specs.Slots.{IsFull};
-
-// Whether a bit is set.
-pub(crate) fn is_set(bits: u64, slot: u32) -> bool
-    requires { slot < 64 }
-    ensures { result ≡ has_bit bits slot }
-{
-    bits >> slot & 1 == 1
-}
 
 // The bits with one more set.
 pub(crate) fn with_bit(bits: u64, slot: u32) -> u64

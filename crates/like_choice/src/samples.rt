@@ -18,6 +18,7 @@ use self::table::Table;
 use crate::choice::Choice;
 use crate::proposal::Proposal;
 use crate::slots::Slots;
+use like_core::has_bit;
 use std::alloc::{AllocError, Global};
 use std::marker::Model;
 
@@ -69,7 +70,7 @@ impl Samples {
         }
         let bits = slots.bits();
         for slot in 0..64u32 {
-            if bits >> slot & 1 == 1 {
+            if has_bit(bits, slot) {
                 self.table.mark_in(slots.page(slot));
             }
         }

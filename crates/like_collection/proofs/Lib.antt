@@ -1,5 +1,6 @@
 pub mod slots
 pub mod Examples
 pub mod Lists
+pub mod Entries
 pub mod Parts
 pub mod PlaceLists

@@ -15,7 +15,7 @@ use Rattle.like_promises.specs.declared.replies.Replies.{Replies}
 use Rattle.like_promises.specs.Collected.{IsCollected, answer_of, entries_in, entries_of, rows_of}
 use Rattle.like_promises.specs.Workload.{nth}
 use Rattle.like_collection.specs.Parts.{AreParts, IsPart, own, own_sizes, row_in}
-use Rattle.like_collection.specs.Entries.{is_of}
+use Rattle.like_collection.proofs.Entries.{is_of}
 use Rattle.like_collection.proofs.Lists.{enumerate_from-append}
 
 -- what is there if there is a value

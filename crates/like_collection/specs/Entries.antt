@@ -1,5 +1,5 @@
 -- The requests of the entries of run lists.
-use Rattle.std.specs.Prelude.{◌≡◌, ◌⊎◌, ℕ, ◌<◌, ◌≤◌, ◌==◌, ◌&&◌, All, Bool, List, length, slice_index}
+use Rattle.std.specs.Prelude.{◌≡◌, ◌⊎◌, ℕ, ◌<◌, ◌≤◌, All, List, length, slice_index}
 use Rattle.like_promises.specs.declared.log.Ran.{Ran}
 use Rattle.like_promises.specs.Collected.{entries_of}
 
@@ -12,10 +12,6 @@ pub record IsRequest (sizes : List ℕ) (submitter number : ℕ) : Type 0 where
 -- a request comes before another: it is of an earlier submitter, or of the same one with a lower number
 abbrev pub Precedes : ℕ → ℕ → ℕ → ℕ → Type 0
 Precedes s m submitter number = (s < submitter) ⊎ ((s ≡ submitter) × (m < number))
-
--- whether an entry is of this submitter's request with this number
-abbrev pub is_of : ℕ → ℕ → Ran → Bool
-is_of submitter number e = (e.submitter == submitter) && (e.number == number)
 
 -- each entry is of a request, and no two are of the same
 pub record AreGood (sizes : List ℕ) (entries : List Ran) : Type 0 where

@@ -27,7 +27,7 @@ mod worker_state;
 pub use event::Event;
 pub use form::Form;
 pub use glances::Glances;
-pub use hot::{HOT_PAGES, is_hot};
+pub use hot::{HOT_PAGES, has_bit, is_hot};
 pub use limits::Limits;
 pub use log::{LogEntry, Logged};
 pub use opening::Opening;

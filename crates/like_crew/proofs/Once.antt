@@ -7,7 +7,8 @@ use Rattle.like_collection.specs.declared.collect_fault.CollectFault.TheVariants
 use Rattle.like_collection.specs.CollectFaults.{IsCollectFault, IsFirstBadEntry}
 use Rattle.like_promises.specs.declared.replies.Replies.{Replies}
 use Rattle.like_promises.specs.Collected.{IsCollected, entries_of, rows_of}
-use Rattle.like_collection.specs.Entries.{IsRequest, is_of}
+use Rattle.like_collection.specs.Entries.{IsRequest}
+use Rattle.like_collection.proofs.Entries.{is_of}
 
 -- each request has one entry, and there is no other entry
 pub record RunsOnce (sizes : List ℕ) (entries : List Ran) : Type 0 where

@@ -22,7 +22,7 @@ use Rattle.like_promises.specs.Workload.{Workload, nth, request_at, submitters}
 use Rattle.like_promises.specs.declared.answer.Answer.{Answer}
 use Rattle.like_promises.specs.declared.report.Report.{Report}
 use Rattle.like_promises.specs.Collected.{rows_of, answer_of, entries_of}
-use Rattle.like_collection.specs.Entries.{is_of}
+use Rattle.like_collection.proofs.Entries.{is_of}
 use Rattle.like_replies.specs.Reported.{reported}
 use Rattle.like_replies.specs.Rows.{IsShowable, IsWritable}
 use Rattle.like_promises.specs.RunStore.{start, store_after}

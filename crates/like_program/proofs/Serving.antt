@@ -1,11 +1,12 @@
 -- What the program has done for its words, by what its parts answered.
-use Rattle.std.proofs.Common.{◌≡◌, ◌==◌, ℕ, List, [], ◌∷◌, inl, inr, Option, Result, Ok, Err, IfErr, IfOk, ap, false, length, map, refl, subst, sym, true≢false}
+use Rattle.std.proofs.Common.{◌≡◌, ◌==◌, ℕ, List, [], ◌∷◌, inl, inr, Option, Result, Ok, Err, IfErr, IfOk, ap, false, true, length, map, refl, subst, sym, true≢false}
 use Rattle.std.specs.Prelude.{◌⊎◌, MatchResult}
 use Rattle.like_command.specs.Asked.{Asks, Words}
 use Rattle.like_files.specs.Faults.{IsBeforeOutput}
 use Rattle.like_files.specs.Outcome.{TellsWrite}
+use Rattle.like_files.specs.StandardInput.{names_of, names_twice}
 use Rattle.like_program.specs.Fault.{of_files}
-use Rattle.like_program.specs.Program.{HasDone, HasServed, IsFilesFault, IsServeFault, IsWordsFault, TellsProgram}
+use Rattle.like_program.specs.Program.{HasDone, HasServed, IsServeFault, IsWordsFault, TellsProgram}
 use Rattle.like_command.specs.declared.asked.Asked.{Asked}
 use Rattle.like_command.specs.declared.asked.Asked.TheVariants.{Run, Replay}
 use Rattle.like_command.specs.declared.options.Options.{Options}
@@ -52,7 +53,12 @@ pub of_files-told : {A W : Type 0} (Failed : W → Type 0) (options : Options) (
 of_files-told Failed options (Ok x) old new told = told
 of_files-told Failed options (Err fault) old new told = told
 
--- why a run or a replay was not done
+-- why a run or a replay with these options was not done
+abbrev pub IsFilesFault : Options → Option (List ℕ) → Option (List ℕ) → ProgramFault → Type 0
+IsFilesFault options old new fault =
+    ((why : DriverFault) × (fault ≡ Files options why) × (IsBeforeOutput why → new ≡ old))
+    ⊎ ((fault ≡ Inputs) × (names_twice (names_of options) ≡ true) × (new ≡ old))
+
 pub files-fault : {A W : Type 0} (contents : W → Option (List ℕ)) (options : Options) (done : Result A DriverFault)
     (before after : W)
     → IfErr done (λ fault. IsBeforeOutput fault → after ≡ before)

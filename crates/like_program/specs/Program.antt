@@ -4,7 +4,6 @@ use Rattle.std.specs.Io.KnownBytes.{Appends}
 use Rattle.like_command.specs.Asked.{Asks, AsksForHelp, IsParseFault, Words}
 use Rattle.like_files.specs.Faults.{IsBeforeOutput}
 use Rattle.like_files.specs.Outcome.{TellsWrite}
-use Rattle.like_files.specs.declared.fault.DriverFault.{DriverFault}
 use Rattle.like_program.specs.Fault.{program_status}
 use Rattle.like_files.specs.Replay.{HasReplayed, HasReplayedSome}
 use Rattle.like_files.specs.Run.{HasRunSome}
@@ -67,12 +66,6 @@ abbrev pub IsExampleFault : Option (List ℕ) → Option (List ℕ) → ProgramF
 IsExampleFault old new (program.Files options fault) = IsBeforeOutput fault → new ≡ old
 IsExampleFault old new program.Memory = new ≡ old
 IsExampleFault old new fault = ⊥
-
--- why a run or a replay with these options was not done
-abbrev pub IsFilesFault : Options → Option (List ℕ) → Option (List ℕ) → ProgramFault → Type 0
-IsFilesFault options old new fault =
-    ((why : DriverFault) × (fault ≡ program.Files options why) × (IsBeforeOutput why → new ≡ old))
-    ⊎ ((fault ≡ program.Inputs) × (names_twice (names_of options) ≡ true) × (new ≡ old))
 
 -- why what the words ask for was not done
 abbrev pub IsWordsFault : Words → Option (List ℕ) → Option (List ℕ) → ProgramFault → Type 0

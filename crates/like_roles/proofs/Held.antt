@@ -18,7 +18,7 @@ use Rattle.like_core.specs.declared.view.WorkerSeatView.{WorkerSeatView}
 use Rattle.like_tables.specs.Share.{submitter_of}
 use Rattle.like_tables.specs.declared.held.Held.{Held}
 use Rattle.like_tables.specs.StashView.{StashView}
-use Rattle.like_seat.specs.StationView.{IsStation, StationView}
+use Rattle.like_seat.specs.StationView.{IsStation, StationView, likes_of}
 use Rattle.like_seat.specs.Steps.{stashing, without_first}
 use Rattle.like_roles.specs.declared.worker.ledger.Ledger.{Ledger}
 use Rattle.like_roles.specs.worker.WorkerView.{waits_at}
@@ -26,9 +26,17 @@ use Rattle.like_promises.specs.Order.{must_wait}
 use Rattle.like_promises.specs.Store.{Ask, like, look, refuse}
 use Rattle.like_roles.specs.declared.worker.judged.Judged.{Judged}
 use Rattle.like_roles.specs.worker.Judged.{IsJudged}
-use Rattle.like_roles.specs.worker.Ledger.{CanServe, HasNotedTaken, HasRoom, HasRoomForOne, HasRoomToNote, HasSubmitters, IsOwn, IsSettled, IsSound, IsTried, view_of}
+use Rattle.like_roles.specs.worker.Ledger.{CanServe, HasNotedTaken, HasRoomFor, HasRoomForOne, HasRoomToNote, HasSubmitters, IsOwnOf, IsSettled, IsSound, IsTried, view_of}
 use Rattle.like_roles.specs.worker.Turns.{trying, with_taken}
 use Rattle.like_roles.proofs.InBlocks.{runs-phase, runs-weaker}
+
+-- a request that the worker of a station may hold
+abbrev pub IsOwn : StationView Held → Held → Type 0
+IsOwn s h = IsOwnOf s.post s.last.share h
+
+-- there is room to take and to run all that its worker has yet to run
+abbrev pub HasRoom : StationView Held → Ledger → Type 0
+HasRoom s d = HasRoomFor (likes_of s) (sum s.slice) (length s.stash.looks) d
 
 -- a list whose first element is known
 pub first_of : {X : Type 0} (xs : List X) (x : X) → slice_get xs 0 ≡ Some x → xs ≡ x ∷ drop 1 xs

@@ -1,5 +1,4 @@
-ghost use Rattle.std.specs.Prelude.{◌≡◌, ◌^◌, ℕ, List, ◌<◌, ◌≤◌, ◌↔◌, [], IfOk, IsTrue, length, slice_index};
-ghost use Rattle.like_core.specs.Functions.{has_bit};
+ghost use Rattle.std.specs.Prelude.{◌≡◌, ◌^◌, ℕ, List, ◌≤◌, ◌↔◌, [], IfOk, IsTrue, length, slice_index};
 ghost use Rattle.like_core.specs.WorkerState.{phase_of};
 ghost use Rattle.like_core.specs.declared.view.WorkerSeatView.{WorkerSeatView};
 ghost use Rattle.like_core.specs.declared.worker_state.WorkerState.TheVariants.{Gone, Runs};
@@ -16,7 +15,7 @@ mod waits;
 
 use crate::like_count::LikeCount;
 use crate::slice_log::SliceLog;
-use like_core::{Post, SlotPost, WorkerState, is_hot};
+use like_core::{HOT_PAGES, Post, SlotPost, WorkerState, has_bit, is_hot};
 use like_tables::{BucketCounts, Counts, Slice, SplitSlice, Stash, Users};
 use std::alloc::{AllocError, Global};
 
@@ -120,14 +119,6 @@ fn split_pages<C: Counts>(slice: &mut SplitSlice<C>, marks: &[bool], mask: u64)
     }
 }
 
-// Whether a word has this bit.
-fn has_bit(word: u64, bit: usize) -> bool
-    requires { bit < hot_pages }
-    ensures { result ≡ has_bit word bit }
-{
-    (word >> bit) & 1 == 1
-}
-
 // Splits the pages in the slots in use, in a service.
 fn split_slots<C: Counts>(slice: &mut SplitSlice<C>, pages: &[u32; 64], used: u64)
     requires unsplit { IsUnsplit slice.old slice.old.splits.factor }
@@ -135,9 +126,9 @@ fn split_slots<C: Counts>(slice: &mut SplitSlice<C>, pages: &[u32; 64], used: u6
     requires numbers { HaveSlotsNumbers slice.old (slice_index pages.now) used }
     ensures { IsFilledBySlots slice.old (slice_index pages.now) used hot_pages slice.new }
 {
-    for slot in 0..64 {
+    for slot in 0..HOT_PAGES {
         if has_bit(used, slot) {
-            slice.put(pages[slot]);
+            slice.put(pages[slot as usize]);
         }
     }
 }

@@ -2,6 +2,7 @@ ghost use Rattle.std.specs.Prelude.{◌<◌, ◌≤◌, length};
 
 use crate::proposal::Proposal;
 use crate::slots::Slots;
+use like_core::has_bit;
 
 /// A page that may be proposed.
 #[derive(Clone, Copy)]
@@ -48,7 +49,7 @@ impl Best {
         for candidate in &self.all[..self.many] {
             let bucket = slots.bucket(candidate.page);
             let word = &mut taken[bucket as usize / 64];
-            if *word >> (bucket % 64) & 1 == 0 {
+            if !has_bit(*word, bucket % 64) {
                 *word |= 1 << (bucket % 64);
                 proposed.push(candidate.page);
             }

@@ -3,7 +3,8 @@ ghost use Rattle.like_limits.specs.Limits.{hot_pages};
 ghost use Rattle.like_core.specs.Functions.{has_bit};
 ghost use Rattle.like_choice.specs.Steps.{stays};
 
-use crate::bits::{is_set, with_bit};
+use crate::bits::with_bit;
+use like_core::has_bit;
 
 // The bits of the slots that stay in use.
 pub(crate) fn kept(slots: &[u32], bits: u64, marks: u32, proposed: &[u32]) -> u64
@@ -27,5 +28,5 @@ fn stays_in(slots: &[u32], bits: u64, marks: u32, proposed: &[u32], slot: u32) -
     ensures { result ≡ stays slots.now bits marks proposed.now slot }
 {
     let page = slots[slot as usize];
-    is_set(bits, slot) && (slot < marks || proposed.contains(&page))
+    has_bit(bits, slot) && (slot < marks || proposed.contains(&page))
 }

@@ -3,7 +3,7 @@ ghost use Rattle.std.specs.List.{list_any};
 ghost use Rattle.like_limits.specs.Limits.{hot_pages};
 ghost use Rattle.like_choice.specs.Slots.{pages_below};
 
-use crate::bits::is_set;
+use like_core::has_bit;
 
 // The pages of the slots at the start: the marked ones, and zeros.
 pub(crate) fn marked_first(marks: &[u32]) -> [u32; 64]
@@ -41,7 +41,7 @@ pub(crate) fn write_used(slots: &[u32], bits: u64, pages: &mut [u32]) -> usize
 {
     let mut many = 0;
     for slot in 0..64u32 {
-        if is_set(bits, slot) && many < pages.len() {
+        if has_bit(bits, slot) && many < pages.len() {
             pages[many] = slots[slot as usize];
             many += 1;
         }

@@ -4,7 +4,7 @@ ghost use Rattle.like_limits.specs.Limits.{hot_pages};
 ghost use Rattle.like_core.specs.Functions.{has_bit};
 ghost use Rattle.like_choice.specs.Slots.{IsTaken};
 
-use crate::bits::is_set;
+use like_core::has_bit;
 use like_limits::bucket;
 
 // Whether the page of a slot in use has the same bucket.
@@ -30,5 +30,5 @@ fn has_bucket(slots: &[u32], bits: u64, factor: u32, slot: u32, wanted: u32) -> 
         (bucket factor (slice_index slots.now slot) == wanted)) }
 {
     let page = slots[slot as usize];
-    is_set(bits, slot) && bucket(factor, page) == wanted
+    has_bit(bits, slot) && bucket(factor, page) == wanted
 }

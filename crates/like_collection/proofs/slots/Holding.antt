@@ -6,9 +6,10 @@ use Rattle.std.proofs.lemmas.List.Elements.{All-nil, All-push, filter-append}
 use Rattle.std.specs.Option.{option_to_list}
 use Rattle.like_promises.specs.declared.log.Ran.{Ran}
 use Rattle.like_promises.specs.declared.answer.Answer.{Answer}
-use Rattle.like_collection.specs.Entries.{AreGood, IsRequest, is_of}
+use Rattle.like_collection.specs.Entries.{AreGood, IsRequest}
 use Rattle.like_promises.specs.Collected.{answer_of, entries_of}
 use Rattle.like_collection.specs.Slots.{HoldsAll, Puts, slot_at}
+use Rattle.like_collection.proofs.Entries.{is_of}
 use Rattle.like_collection.proofs.slots.SlotPlaces.{IsRequest-slot, sized-start, sized-write, slot_at-other, slot_at-same, slot_at-start}
 
 -- an option that gives no element is none

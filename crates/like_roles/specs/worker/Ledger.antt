@@ -44,9 +44,6 @@ pub record IsOwnOf (post : WorkerSeatView) (users : Share) (h : Held) : Type 0 w
   pub served : worker_of users.workers h.submitter ≡ users.worker
   pub there : IsThere (pages_of post) h.ask.request.page
 
-abbrev pub IsOwn : StationView Held → Held → Type 0
-IsOwn s h = IsOwnOf s.post s.last.share h
-
 -- the submitter at a rank is tried: it has not ended, and there is room for a look that waits
 pub record IsTriedAt (post : WorkerSeatView) (stash : StashView Held) (d : Ledger) (rank : ℕ) : Type 0 where
   pub there : rank < vec_len d.ended
@@ -73,9 +70,6 @@ pub record HasRoomFor (likes sliced stashed : ℕ) (d : Ledger) : Type 0 where
   pub few_ran : vec_capacity d.ran ≤ max_likes
   pub adds : d.notes ≡ true → vec_len d.adds + sliced + stashed + sum d.left.items ≤ vec_capacity d.adds
   pub few : likes + stashed + sum d.left.items ≤ max_likes
-
-abbrev pub HasRoom : StationView Held → Ledger → Type 0
-HasRoom s d = HasRoomFor (likes_of s) (sum s.slice) (length s.stash.looks) d
 
 -- and there is room to run one more request
 pub record HasRoomForMore (likes sliced stashed : ℕ) (d : Ledger) : Type 0 where

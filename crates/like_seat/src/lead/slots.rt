@@ -1,12 +1,11 @@
-ghost use Rattle.std.specs.Prelude.{◌≡◌, ◌<◌, length};
+ghost use Rattle.std.specs.Prelude.{◌≡◌, length};
 ghost use Rattle.like_board.specs.Seats.{board_id, coord_board, coord_view};
 ghost use Rattle.like_limits.specs.Limits.{hot_pages};
-ghost use Rattle.like_core.specs.Functions.{has_bit};
 ghost use Rattle.like_core.specs.views.Views.{MayPut};
 ghost use Rattle.like_seat.specs.Lead.{MayPublishChoice, PutsPage, PutsPages};
 
 use like_board::{Board, CoordSeat};
-use like_core::HOT_PAGES;
+use like_core::{HOT_PAGES, has_bit};
 
 // Puts these pages into the slots in use, but for those that hold them. `held` is what the slots hold.
 pub(crate) fn put_pages(
@@ -25,18 +24,10 @@ pub(crate) fn put_pages(
     ensures held { held.new ≡ (coord_view seat.new).slots }
 {
     for slot in 0..HOT_PAGES {
-        if is_in_use(bits, slot) {
+        if has_bit(bits, slot) {
             put_page(seat, board, held, slot, pages[slot as usize]);
         }
     }
-}
-
-// Whether a slot is in use.
-fn is_in_use(bits: u64, slot: u32) -> bool
-    requires { slot < hot_pages }
-    ensures { result ≡ has_bit bits slot }
-{
-    bits >> slot & 1 == 1
 }
 
 // Puts a page into a slot, if that holds another.

@@ -5,7 +5,7 @@ use Rattle.like_limits.specs.Limits.{hot_pages}
 use Rattle.like_choice.specs.Slots.{pages_below}
 use Rattle.like_choice.proofs.Written.{drop-more, more-unused, more-used, none-below, take-full, take-room}
 use Rattle.like_choice.proofs.slots.pages.write_used.Goals as goal
-use Rattle.like_choice.proofs.slots.pages.write_used.Goals.{then-is_set+then-many-pages, else-is_set, else-is_set-via-then-is_set+else-many-pages, else-is_set-via-else-is_set}
+use Rattle.like_choice.proofs.slots.pages.write_used.Goals.{then-has_bit+then-many-pages, else-has_bit, else-has_bit-via-then-has_bit+else-many-pages, else-has_bit-via-else-has_bit}
 
 pub loop-slot-init : goal.loop-slot-init
 loop-slot-init c =
@@ -22,10 +22,10 @@ loop-slot-preserved c =
     let written : length (take room below) ≡ l.many =
     ap (λ (xs : List ℕ). length xs) (sym l.invariant.pages)
     ∙ length-take-le l.many l.pages (omega (arith, l.invariant.len, l.invariant.few)) in
-    elim c.if-is_set.branch [
-      | then-is_set+then-many-pages w ↦
+    elim c.if-has_bit.branch [
+      | then-has_bit+then-many-pages w ↦
           let there : l.many < length l.pages = omega (arith, w.if-many-pages.true) in
-          let more = more-used c.args.slots.now c.args.bits l.slot (sym c.is_set.ensures ∙ w.if-is_set.true) in
+          let more = more-used c.args.slots.now c.args.bits l.slot (sym c.has_bit.ensures ∙ w.if-has_bit.true) in
           let less : l.many < l.many + 1 = omega arith in
           record {
             len = ap (λ (xs : List ℕ). length xs) w.pages-is ∙ length-set l.pages l.many page ∙ l.invariant.len;
@@ -39,19 +39,19 @@ loop-slot-preserved c =
                 ∙ drop-more l.many l.pages c.args.pages.now l.invariant.rest
                 ∙ sym (ap (λ n. drop n c.args.pages.now) w.many-is);
           }
-      | else-is_set w ↦ record {
+      | else-has_bit w ↦ record {
         len = ap (λ (xs : List ℕ). length xs) w.pages-is ∙ l.invariant.len;
         few = omega (arith, w.many-is, l.invariant.few);
         pages = (λ m. take (w.many-is m) (w.pages-is m)) ∙ l.invariant.pages ∙ sym (
-            elim w.else-is_set.branch [
-              | else-is_set-via-then-is_set+else-many-pages v ↦
+            elim w.else-has_bit.branch [
+              | else-has_bit-via-then-has_bit+else-many-pages v ↦
                   ap (take room)
-                  (more-used c.args.slots.now c.args.bits l.slot (sym c.is_set.ensures ∙ v.if-is_set.true))
+                  (more-used c.args.slots.now c.args.bits l.slot (sym c.has_bit.ensures ∙ v.if-has_bit.true))
                   ∙ take-full room l.many page below written
                   (omega (arith, v.if-many-pages.false, l.invariant.len))
-              | else-is_set-via-else-is_set v ↦
+              | else-has_bit-via-else-has_bit v ↦
                   ap (take room)
-                  (more-unused c.args.slots.now c.args.bits l.slot (sym c.is_set.ensures ∙ v.if-is_set.false))
+                  (more-unused c.args.slots.now c.args.bits l.slot (sym c.has_bit.ensures ∙ v.if-has_bit.false))
             ]
             );
         rest = (λ m. drop (w.many-is m) (w.pages-is m)) ∙ l.invariant.rest

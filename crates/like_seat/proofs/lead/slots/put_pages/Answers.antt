@@ -4,7 +4,7 @@ use Rattle.like_board.specs.declared.coord_seat.CoordSeat.{CoordSeat}
 use Rattle.like_seat.specs.Lead.{PutsPages}
 use Rattle.like_seat.proofs.Choosing.{may-put, puts-more, puts-none, puts-unused}
 use Rattle.like_seat.proofs.lead.slots.put_pages.Goals as goal
-use Rattle.like_seat.proofs.lead.slots.put_pages.Goals.{then-is_in_use, else-is_in_use}
+use Rattle.like_seat.proofs.lead.slots.put_pages.Goals.{then-has_bit, else-has_bit}
 
 pub loop-slot-init : goal.loop-slot-init
 loop-slot-init c = record {
@@ -21,7 +21,7 @@ pub put_page-requires-clause-may : goal.put_page-requires-clause-may
 put_page-requires-clause-may c =
     let l = c.loop-slot in
     may-put (coord_view c.args.seat.now) c.args.pages.now c.args.bits l.slot (coord_view l.seat)
-    c.requires.may l.invariant.puts c.loop-slot-test.true (sym c.is_in_use.ensures ∙ c.if-is_in_use.true)
+    c.requires.may l.invariant.puts c.loop-slot-test.true (sym c.has_bit.ensures ∙ c.if-has_bit.true)
 
 pub put_page-requires-clause-all : goal.put_page-requires-clause-all
 put_page-requires-clause-all c =
@@ -32,8 +32,8 @@ pub loop-slot-preserved : goal.loop-slot-preserved
 loop-slot-preserved c =
     let l = c.loop-slot in
     let first = coord_view c.args.seat.now in
-    elim c.if-is_in_use.branch [
-      | then-is_in_use w ↦ record {
+    elim c.if-has_bit.branch [
+      | then-has_bit w ↦ record {
         board = ap coord_board w.seat-is ∙ w.put_page.ensures.board ∙ l.invariant.board;
         puts = subst (λ (s : CoordSeat). PutsPages first c.args.pages.now c.args.bits (l.slot + 1) (coord_view s))
             (sym w.seat-is)
@@ -41,12 +41,12 @@ loop-slot-preserved c =
             l.invariant.puts w.put_page.ensures.puts c.loop-slot-test.true);
         held = w.held-is ∙ w.put_page.ensures.held ∙ sym (ap (λ (s : CoordSeat). (coord_view s).slots) w.seat-is);
       }
-      | else-is_in_use w ↦ record {
+      | else-has_bit w ↦ record {
         board = ap coord_board w.seat-is ∙ l.invariant.board;
         puts = subst (λ (s : CoordSeat). PutsPages first c.args.pages.now c.args.bits (l.slot + 1) (coord_view s))
             (sym w.seat-is)
             (puts-unused first c.args.pages.now c.args.bits l.slot (coord_view l.seat) l.invariant.puts
-            (sym c.is_in_use.ensures ∙ w.if-is_in_use.false));
+            (sym c.has_bit.ensures ∙ w.if-has_bit.false));
         held = w.held-is ∙ l.invariant.held ∙ sym (ap (λ (s : CoordSeat). (coord_view s).slots) w.seat-is);
       }
     ]

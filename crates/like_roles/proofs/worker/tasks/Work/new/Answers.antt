@@ -22,8 +22,9 @@ use Rattle.like_tables.specs.StashView.{StashView}
 use Rattle.like_tables.specs.declared.held.Held.{Held}
 use Rattle.like_roles.specs.declared.terms.Terms.{Terms}
 use Rattle.like_roles.specs.declared.worker.ledger.Ledger.{Ledger}
-use Rattle.like_roles.specs.worker.Ledger.{HasSubmitters, IsNewLedger, IsOwn, IsSound, view_of}
+use Rattle.like_roles.specs.worker.Ledger.{HasSubmitters, IsNewLedger, IsSound, view_of}
 use Rattle.like_roles.specs.worker.New.{IsNew, IsPostOf}
+use Rattle.like_roles.proofs.Held.{IsOwn}
 use Rattle.like_roles.proofs.Started.{follows-new}
 use Rattle.like_roles.proofs.worker.tasks.Work.new.Goals as goal
 

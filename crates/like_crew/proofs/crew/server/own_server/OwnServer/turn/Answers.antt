@@ -1,10 +1,9 @@
 use Rattle.std.proofs.Common.{◌≡◌, [], refl, sym, ap, subst, ◌∙◌}
 use lib.ListN.{get_elem?}
 use Rattle.like_core.specs.declared.view.View.TheVariants.{Worker}
-use Rattle.like_board.specs.Lending.{CameBack}
 use Rattle.like_board.specs.Lent.{lent_board}
 use Rattle.like_board.specs.Own.{own_place, own_view, own_views}
-use Rattle.like_board.proofs.LentPosts.{comes_back}
+use Rattle.like_board.proofs.LentPosts.{CameBack, comes_back}
 use Rattle.like_crew.specs.Fresh.{IsModelled}
 use Rattle.like_crew.specs.OwnServer.{OwnServerView}
 use Rattle.like_crew.specs.Server.{ServerGoesOn}
