@@ -114,8 +114,10 @@ fn shown_in(phase: u32) -> Result<Shown, NotNow> {
 // A core goes on to the last phase, whose end can't be announced.
 fn assert_last_phase(rt: &impl Abort, core: &mut Core, last_phase: u32) {
     for phase in 0..last_phase {
-        let wrong = wrong_in_words(goes_on(core, phase));
-        assert_step(rt, "phases", phase as usize, wrong, None);
+        let checked = goes_on(core, phase);
+        if checked.is_err() {
+            assert_step(rt, "phases", phase as usize, wrong_in_words(checked), None);
+        }
     }
     let announced = in_words(core.step(Event::Announce));
     let wanted = in_words(Err(NotNow::Last));
