@@ -95,8 +95,9 @@ uint32_t likes_service_close(likes_service *service);
 /* What is wrong with a service: LIKES_NOT_STARTED, LIKES_STOPPED, or LIKES_OK. */
 uint32_t likes_service_fault(const likes_service *service);
 
-/* Why likes_service_lock gives NULL: the same, or LIKES_UNKNOWN_SEAT, or LIKES_HOLDS_SEAT, where the calling thread
- * holds a seat of the service. Where it is LIKES_OK and NULL was given, there was no memory for the thread. */
+/* Why likes_service_lock gives NULL: what likes_service_fault gives, or LIKES_UNKNOWN_SEAT, or LIKES_HOLDS_SEAT, where
+ * the calling thread holds a seat of the service. Where it is LIKES_OK and NULL was given, there was no memory for the
+ * thread. */
 uint32_t likes_service_seat_fault(const likes_service *service, uint32_t number);
 
 /* Adds one like: an answer of likes_seat_like, but never LIKES_BETWEEN. Any thread may call it. */
@@ -106,8 +107,8 @@ uint32_t likes_service_like(likes_service *service, uint32_t user, uint32_t page
  * LIKES_WAITS or LIKES_NO_ROOM. Any thread may call it, also while another takes found looks of its own at the seat. */
 uint32_t likes_service_look(likes_service *service, uint32_t user, uint32_t page, likes_answer *answer);
 
-/* The same with a time limit, in microseconds, which it hardly exceeds: then it answers LIKES_LATE. A look that was
- * made keeps its place in the seat's room until the phase ends. */
+/* Looks as likes_service_look does, but waits for so many microseconds at most, and hardly longer: then it answers
+ * LIKES_LATE. A look that was made keeps its place in the seat's room until the phase ends. */
 uint32_t likes_service_look_within(likes_service *service, uint32_t user, uint32_t page, uint32_t microseconds,
                                    likes_answer *answer);
 
@@ -163,10 +164,10 @@ uint32_t likes_service_lasts(likes_service *service, uint32_t *lasts, size_t use
  * LIKES_NO_MOMENT.) */
 uint32_t likes_service_counts(likes_service *service, uint64_t *counts, size_t pages);
 
-/* The same, and all users' last likes at that moment, by user number: what a new service is opened with to go on from
- * it. All seats stand still until they are written. LIKES_NO_MOMENT: since this call first found that another thread holds
- * a seat, that thread has held it for a tenth of a second, in no call of the service but such that answer LIKES_BETWEEN.
- * Then some numbers, or all, are not written. */
+/* Writes the counts as likes_service_counts does, and all users' last likes at that moment, by user number: what a new
+ * service is opened with to go on from it. All seats stand still until they are written. LIKES_NO_MOMENT: since this
+ * call first found that another thread holds a seat, that thread has held it for a tenth of a second, in no call of the
+ * service but such that answer LIKES_BETWEEN. Then some numbers, or all, are not written. */
 uint32_t likes_service_snapshot(likes_service *service, uint64_t *counts, size_t pages, uint32_t *lasts, size_t users);
 
 /* Saves what likes_service_snapshot writes to a file: LIKES_OK. After a crash there is the file as it was, or the new one.
@@ -229,8 +230,8 @@ size_t likes_seat_take_all_found(likes_seat *seat, likes_found *found, size_t fo
  * LIKES_NOT_ALL_IN, and that thread makes one more. */
 uint32_t likes_service_drive(likes_service *service);
 
-/* The same, but only if a turn is due. A busy thread may call it once in some 256 requests: then no phase waits until
- * the driver's thread gets a processor. */
+/* Makes a turn of the driver as likes_service_drive does, but only if one is due. A busy thread may call it once in
+ * some 256 requests: then no phase waits until the driver's thread gets a processor. */
 void likes_service_tick(likes_service *service);
 
 /* Does the phase work of the seats that nobody holds. */

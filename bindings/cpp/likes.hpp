@@ -175,7 +175,7 @@ public:
         return *seen(answer);
     }
 
-    // The same, but no answer if it takes longer.
+    // The exact count, or no answer if that takes longer.
     std::optional<Seen> look_within(std::uint32_t user, std::uint32_t page, std::chrono::microseconds time) {
         likes_answer answer = {};
         auto limit = std::clamp<std::chrono::microseconds::rep>(time.count(), 0, UINT32_MAX);
@@ -217,7 +217,7 @@ public:
         return now;
     }
 
-    // The same with all last likes of that moment. Likes and looks wait meanwhile.
+    // The counts of all pages and all last likes at one moment. Likes and looks wait meanwhile.
     Moment snapshot() {
         std::vector<std::uint64_t> counts(pages_);
         std::vector<std::uint32_t> lasts(users_);

@@ -51,7 +51,7 @@ def lock_fault(number: int) -> int:
 
 
 def check_file(number: int, path: str) -> None:
-    """The same of a call that reads or writes a file."""
+    """Raises a status of a call that reads or writes a file, but OK."""
     if number == Status.FILE_FAULT:
         raise OSError(get_errno(), os.strerror(get_errno()), path)
     check(number, Status.OK)

@@ -182,7 +182,7 @@ def last_of(page: int) -> Optional[int]:
 
 
 def number_of(last: Optional[int]) -> int:
-    """The same the other way round."""
+    """The number for C of a last like's page, or of none."""
     return NO_PAGE if last is None else last
 
 

@@ -183,7 +183,7 @@ class Likes:
         return seen(answer)
 
     def look_within(self, user: int, page: int, seconds: float) -> Optional[Seen]:
-        """The same with a time limit, after which it is None."""
+        """Looks as `look` does, within a time limit, after which it is None."""
         answer, limit = Answer(), microseconds("seconds", seconds, MOST)
         user, page = whole("user", user), whole("page", page)
         status = self._call(self._library.likes_service_look_within, user, page, limit, byref(answer))
@@ -193,8 +193,8 @@ class Likes:
         return seen(answer)
 
     def glance(self, user: int, page: int) -> Shown:
-        """The same at once: Seen, or Glimpsed where the page is split, so that other seats' likes of the present phase
-        may be missing."""
+        """Looks at once: Seen, or Glimpsed where the page is split, so that other seats' likes of the present phase may
+        be missing."""
         answer = Answer()
         user, page = whole("user", user), whole("page", page)
         status = self._call(self._library.likes_service_glance, user, page, byref(answer))

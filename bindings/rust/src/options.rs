@@ -62,7 +62,7 @@ impl Options<'_> {
         Self { users, seats: None, room: None, hot: Hot::Usual, period: None, marks: &[], lasts: &[] }
     }
 
-    /// The same for C, with the counts. It points into both.
+    /// The options for C, with the counts. It points into both.
     pub(crate) fn numbers(&self, counts: &[u64]) -> Numbers {
         Numbers {
             counts: counts.as_ptr(),

@@ -84,7 +84,7 @@ impl Answer {
         }
     }
 
-    /// The same, of a look.
+    /// What a look came to, or why it was refused.
     pub(crate) fn look(&self) -> Result<Look, Error> {
         match self.status {
             status::WAITS => Ok(Look::Waits),
@@ -95,7 +95,7 @@ impl Answer {
         }
     }
 
-    /// The same, of a glance.
+    /// What a glance came to, or why it was refused.
     pub(crate) fn glance(&self) -> Result<Glance, Error> {
         match self.status {
             status::GLIMPSED => Ok(Glance::Glimpsed(self.numbers())),
@@ -105,7 +105,7 @@ impl Answer {
         }
     }
 
-    /// The same, of a look of a service.
+    /// What a look of a service showed, or why it was refused.
     pub(crate) fn seen(&self) -> Result<Seen, Error> {
         match self.status {
             status::SEEN => Ok(self.numbers()),
@@ -113,7 +113,7 @@ impl Answer {
         }
     }
 
-    /// The same, of a glance of a service.
+    /// What a glance of a service showed, or why it was refused.
     pub(crate) fn shown(&self) -> Result<Shown, Error> {
         match self.status {
             status::GLIMPSED => Ok(Shown::Glimpsed(self.numbers())),

@@ -118,8 +118,8 @@ impl Service {
         answer.seen()
     }
 
-    /// The same with a time limit, which it hardly exceeds: then there is no answer. A look that was made keeps its
-    /// place in the seat's room until the phase ends.
+    /// Looks as [`look`](Self::look) does, within a time limit, which it hardly exceeds: then there is no answer. A
+    /// look that was made keeps its place in the seat's room until the phase ends.
     ///
     /// # Errors
     ///
@@ -192,7 +192,8 @@ impl Service {
         Ok(counts)
     }
 
-    /// The same, and the last likes of all users at that moment. All seats stand still meanwhile.
+    /// The counts of all pages at one moment, as by [`counts`](Self::counts), and the last likes of all users then. All
+    /// seats stand still meanwhile.
     ///
     /// # Errors
     ///

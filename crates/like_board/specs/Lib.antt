@@ -1,3 +1,4 @@
+-- Boards: their words, marks and rule, their seats and posts, and a board that one thread owns.
 pub mod Known
 pub mod Marks
 pub mod Rule

@@ -6,11 +6,11 @@ use Rattle.like_core.specs.declared.view.View.TheVariants.{Coord, Worker}
 use Rattle.like_core.specs.Post.{fresh}
 use Rattle.like_board.specs.Rule.{opened_coord}
 
--- those of this many workers, in order
+-- the views of this many workers, in order
 unfoldable pub new_workers : Opening → ℕ → List View
 new_workers z zero = []
 new_workers z (suc workers) = new_workers z workers ++ Worker (fresh z workers) ∷ []
 
--- the coordinator's, and those of all workers
+-- the coordinator's view, and those of all workers
 abbrev pub new_views : Opening → List View
 new_views z = Coord (opened_coord z) ∷ new_workers z z.workers

@@ -48,7 +48,7 @@ abbrev pub board_numbers : TableId → List ℕ
 board_numbers id =
     id.words ∷ id.slots ∷ id.views_name ∷ id.atom ∷ id.block ∷ id.offset ∷ id.slot_names
 
--- those of a post's board
+-- the numbers of a post's board
 abbrev pub post_numbers : {B : Type 0} {held : _} → PostAt B held → List ℕ
 post_numbers post = board_numbers (post_board post)
 

@@ -48,7 +48,8 @@ pub data Calls {A : Type 0} (seat : ℕ) (deeds : A → List SeatDeed) (told : R
         → KeepsHub b c → Calls seat deeds told b c
     no_seat : seats_by b ≤ seat → told ≡ Err status.unknown_seat → c ≡ b → Calls seat deeds told b c
 
--- the same of a call of the driver
+-- a call of the driver by a client, and what it is told: it was made, and its log has it; or another thread has the
+-- driver, and its log is as before
 pub data CallsDriver {A : Type 0} (one : A → DriverDeed) (told : Result A ℕ) (b c : BoxedClient) : Type 0 where
   driven : (answer : A) → told ≡ Ok answer → IsDriverLogged b.client one (Ok answer) c.client → KeepsHub b c
       → CallsDriver one told b c

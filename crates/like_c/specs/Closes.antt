@@ -40,7 +40,8 @@ pub data PreventsEnd (h : SeatHandle) (result : ℕ) : Type 0 where
       → PreventsEnd h result
   is_other : result ≡ status.wrong_seats → PreventsEnd h result
 
--- the same of the seats in these handles: one prevents it, or they aren't as many as the driver's
+-- why a service can't be closed with the seats in these handles: one prevents it, or they aren't as many as the
+-- driver's
 pub data PreventEnd (handles : List SeatHandle) (result : ℕ) : Type 0 where
   one_prevents : (i : ℕ) (h : SeatHandle) → slice_get handles i ≡ Some h → PreventsEnd h result
       → PreventEnd handles result

@@ -40,7 +40,8 @@ pub data At {A : Type 0} (empty : Type 0) (does : A → A → Type 0) (at after 
   at_none : at ≡ None → empty → after ≡ None → At empty does at after
   at_some : (x y : A) → at ≡ Some x → does x y → after ≡ Some y → At empty does at after
 
--- the same of a seat, which stays the same seat
+-- a call of a seat's handle: for an empty one this is so; the seat of any other stays the same seat, and the call does
+-- this to it
 abbrev pub SeatAt : Type 0 → (LiveView → LiveView → Type 0) → Option BoxedSeat → Option BoxedSeat → Type 0
 SeatAt empty does at after = At empty (λ s t. does s.live t.live × IsSameSeat s.live t.live) at after
 

@@ -22,7 +22,7 @@ use Rattle.like_c.specs.declared.phase_handle.PhaseHandle.{PhaseHandle}
 use Rattle.like_c.specs.declared.seat_handle.SeatHandle.{SeatHandle}
 use Rattle.like_c.specs.declared.shared_handle.SharedHandle.{SharedHandle}
 
--- the same pointer, and this behind it
+-- a handle with its pointer as it was, and this behind it
 abbrev pub with_seat : SeatHandle → BoxedSeat → SeatHandle
 with_seat h seat = record { at = h.at; home = Some seat }
 

@@ -1,3 +1,4 @@
+-- What crosses to C: handles, rows and statuses, and what likes.h tells of each call.
 pub mod Cards
 pub mod ClientRows
 pub mod Clients

@@ -21,7 +21,7 @@ use Rattle.like_c.specs.Opened.{asked_of}
 use Rattle.like_c.specs.Status.{open_status}
 use Rattle.like_c.specs.Status as status
 
--- its hub
+-- the hub of a shared service
 abbrev pub shared_hub : BoxedShared → Hub
 shared_hub b = arc_value b.hub
 

@@ -20,7 +20,7 @@ abbrev pub AreApart : ℕ → List ℕ → Type 0
 AreApart factor pages = (i j : ℕ) → i < length pages → j < length pages
     → bucket factor (slice_index pages i) ≡ bucket factor (slice_index pages j) → i ≡ j
 
--- those of a new service: only the marked pages have slots
+-- the slots of a new service: only the marked pages have one
 abbrev pub new_slots : ℕ → ℕ → List ℕ → SlotsView
 new_slots factor pages marks = record {
   factor = factor;
@@ -89,7 +89,7 @@ pub record Chooses (old : SlotsView) (proposed : List ℕ) (new : SlotsView) : T
   pub same : (new.factor ≡ old.factor) × (new.pages ≡ old.pages) × (new.marks ≡ old.marks)
   -- a marked page keeps its slot
   pub marked : (slot : ℕ) → slot < old.marks → KeepsSlot old new slot
-  -- so does a page that was in and is proposed again
+  -- a page that was in and is proposed again keeps its slot
   pub again : (slot : ℕ) → IsInUse old.bits slot → Contains proposed (slice_index old.slots slot)
       → KeepsSlot old new slot
   -- each page that is in is marked or proposed

@@ -1,3 +1,4 @@
+-- How the answers and the places of all workers' logs are put together.
 pub mod slots
 pub mod Examples
 pub mod Lists

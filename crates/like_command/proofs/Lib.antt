@@ -1,3 +1,4 @@
+-- What `clap` reads of the command line, and what it finds in words.
 pub mod Commands
 pub mod Grown
 pub mod Matched

@@ -15,7 +15,7 @@ pub record IsCommand (app : App) (c : Command) : Type 0 where
   pub app_is : app_of c ≡ app
   pub local : (out-Command c).has_globals ≡ false
 
--- and one without subcommands
+-- a command without subcommands that reads words so, with no global arguments
 pub record IsSubcommand (shape : Shape) (c : Command) : Type 0 where
   pub shape_is : shape_of c ≡ shape
   pub local : (out-Command c).has_globals ≡ false

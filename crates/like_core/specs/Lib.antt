@@ -1,3 +1,4 @@
+-- The phase word, the core as a state machine, and what a worker's and the coordinator's views tell.
 pub mod Additions
 pub mod PageSteps
 pub mod Log

@@ -1,3 +1,4 @@
+-- What a crew's turns keep, why each request is answered once, and why its report is that of one thread.
 pub mod servers
 pub mod Ordered
 pub mod Counted

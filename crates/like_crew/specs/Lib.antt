@@ -1,3 +1,4 @@
+-- A crew: the coordinator, and the workers with their inboxes. Its steps, its end and its outcome.
 pub mod Crew
 pub mod Ended
 pub mod Fresh

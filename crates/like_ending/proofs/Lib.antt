@@ -1,3 +1,4 @@
+-- Why rounds and fair schedules end: what each turn lowers and keeps.
 pub mod States
 pub mod WorkerFacts
 pub mod Sums

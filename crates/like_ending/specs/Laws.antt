@@ -16,7 +16,7 @@ StaysInPhase =
     (all_open : Bool) (who : Participant) (c d : CrewProgress)
     → IsCrewInPhase c → HasTurn all_open who c d → IsCrewInPhase d
 
--- and no turn raises what is left
+-- no turn of a crew in phase raises what is left
 abbrev pub NoTurnRaises : Type 0
 NoTurnRaises =
     (all_open : Bool) (who : Participant) (c d : CrewProgress)
@@ -40,7 +40,8 @@ RoundsEnd =
     → IsStart start → TakeTurns false before start c → Unended IsFreshRound n c d
     → MayLast start.turns (items_in start) (length start.workers) n
 
--- so are n fair rounds, and with them the next turn of the coordinator, if that doesn't find all workers gone either
+-- from a start, after any turns, n fair rounds one after another, none of which begins with all workers gone, are
+-- within the bound; and so are n + 1, if not all workers are gone after them
 abbrev pub FairRoundsEnd : Type 0
 FairRoundsEnd =
     (before : List Participant) (n : ℕ) (start c d : CrewProgress)

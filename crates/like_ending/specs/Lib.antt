@@ -1,3 +1,4 @@
+-- A model of how far a crew is, its turns and schedules, what they lower, and the laws that they end.
 pub mod Progress
 pub mod FreshTurns
 pub mod FreshCoordTurns

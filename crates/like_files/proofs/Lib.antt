@@ -1,3 +1,4 @@
+-- Opening and reading the files of a run or a replay, why one ends without its report, and examples.
 pub mod Ended
 pub mod Examples
 pub mod FailedReads

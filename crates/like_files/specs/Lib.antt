@@ -1,3 +1,4 @@
+-- Runs and replays of files: what the files give, the outcome, and the status and line of each fault.
 pub mod FailedReads
 pub mod Faults
 pub mod Inputs

@@ -1,3 +1,4 @@
+-- What the calls of a live seat and of the driver do and keep, and why those of all seats are one thread's.
 pub mod Accepting
 pub mod Answering
 pub mod Batches

@@ -14,7 +14,7 @@ pub record SplitsView : Type 0 where
   pub proposed : List ℕ
   pub held : List ℕ
 
--- those of a new service: the marked pages have slots, none is proposed, and the board's slots hold zeros
+-- the split pages of a new service: the marked pages have slots, none is proposed, and the board's slots hold zeros
 abbrev pub new_splits : ℕ → ℕ → List ℕ → List ℕ → SplitsView
 new_splits factor pages marks told =
     record { slots = new_slots factor pages marks; told = told; proposed = []; held = replicate hot_pages 0 }

@@ -23,7 +23,7 @@ pub record SeatHistory : Type 0 where
   pub told : List Told
   pub done : HasDone first told last
 
--- its deeds
+-- the deeds of a seat's calls
 abbrev pub deeds_in : SeatHistory → List Deed
 deeds_in h = deeds_of h.told h.first h.last h.done
 
@@ -74,7 +74,7 @@ abbrev pub HasLastCounts : Opening → List ℕ → List Deed → Type 0
 HasLastCounts o counts serial =
     (page : ℕ) → page < length counts → slice_index counts page ≡ (store_after (opened o) serial).count page
 
--- and so are the last likes that each seat tells of its users
+-- the last likes that each seat tells of its users are the store's after all deeds
 abbrev pub HasLastLikes : Opening → List LiveView → List Deed → Type 0
 HasLastLikes o seats serial =
     (seat user : ℕ) (v : LiveView) → slice_get seats seat ≡ Some v → user < o.users → home o.seats user ≡ seat
@@ -101,8 +101,8 @@ SeatsRise =
     (o : Opening) (deeds : List (List Deed)) (serial : List Deed) → IsStrictService o deeds serial
     → All (λ ds. AllPairs (λ d e. d.phase ≤ e.phase) ds) deeds
 
--- the same while a service still runs: at each moment there is a strict list of all that its seats have done so far,
--- likes in slices included, and the last likes that seats tell are its store's
+-- the law of one order while a service still runs: at each moment there is a strict list of all that its seats have
+-- done so far, likes in slices included, and the last likes that seats tell are its store's
 abbrev pub MomentsAreStrict : Type 0
 MomentsAreStrict =
     (o : Opening) (factor : ℕ) (board : BoardId) (histories : List SeatHistory) (m : Moment (board_opening o factor))
@@ -111,7 +111,7 @@ MomentsAreStrict =
     → (serial : List Deed) × IsStrictService o (map deeds_in histories) serial
     × HasLastLikes o (map (λ h. h.last) histories) serial
 
--- and so each deed so far fits the store after all with lesser numbers
+-- at each moment of a service each deed so far fits the store after all deeds with lesser numbers
 abbrev pub MomentsFitEarlier : Type 0
 MomentsFitEarlier =
     (o : Opening) (factor : ℕ) (board : BoardId) (histories : List SeatHistory) (m : Moment (board_opening o factor))

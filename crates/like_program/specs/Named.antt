@@ -49,6 +49,6 @@ module _ {R : Type 0} (left : R → Option (List ℕ)) (before after : Option (L
   abbrev pub IsRunNamedFault : Options → DriverFault → Type 0
   IsRunNamedFault options fault = IsUnopened before after options fault ⊎ NamedRunRefused options fault
 
-  -- the same of a replay
+  -- why the files that the options name were not replayed: one was not opened, or their replay was refused
   abbrev pub IsReplayNamedFault : Options → DriverFault → Type 0
   IsReplayNamedFault options fault = IsUnopened before after options fault ⊎ NamedReplayRefused options fault

@@ -1,3 +1,4 @@
+-- How run order grows, what requests ask, the mask of hot pages, and worked examples.
 pub mod Asked
 pub mod Blocks
 pub mod Examples

@@ -1,3 +1,4 @@
+-- Records of a CSV file and the fault of the first wrong one. Whole numbers in decimal.
 pub mod Decimal
 pub mod Fault
 pub mod First

@@ -1,3 +1,4 @@
+-- How the text of a report grows, row by row and section by section, also in parallel.
 pub mod InParallel
 pub mod Begun
 pub mod Examples

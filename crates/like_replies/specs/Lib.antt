@@ -1,3 +1,4 @@
+-- The text of a report: rows, sections, sums, refused requests, places and notices.
 pub mod Notices
 pub mod Output
 pub mod PlaceRows

@@ -1,3 +1,4 @@
+-- What each input file says once its rows are read, how a page is found by its name, and verdicts on requests.
 pub mod Added
 pub mod FirstAway
 pub mod Found

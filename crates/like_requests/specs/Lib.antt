@@ -1,3 +1,4 @@
+-- The input of a run: its pages, requests, script and limits, and which requests are accepted.
 pub mod Entries
 pub mod Pages
 pub mod PagesFile

@@ -38,7 +38,7 @@ pub record AreEntries (pages : List Page) : Type 0 where
   pub counted : All (λ p. p.count ≤ max_count) pages
   pub distinct : IsDistinct bytes_eq (names pages)
 
--- the same, and there is one at least
+-- there are 1 to 1,024 pages, with distinct names and counts of at most 10^18
 pub record ArePages (pages : List Page) : Type 0 where
   pub some : 0 < length pages
   pub entries : AreEntries pages

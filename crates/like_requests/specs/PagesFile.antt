@@ -33,7 +33,7 @@ AsksPage earlier r Header = ⊤
 AsksPage earlier r Empty = ⊤
 AsksPage earlier r Memory = ⊤
 
--- the same after earlier records
+-- what the test with this fault asks of a record after these earlier ones
 abbrev pub AsksPageRecord : List Record → Record → PagesFault → Type 0
 AsksPageRecord earlier r fault = AsksPage (map (λ e. field e 0) earlier) r fault
 

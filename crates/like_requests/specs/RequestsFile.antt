@@ -48,7 +48,7 @@ AsksRequest earlier r fault.Read = ⊤
 AsksRequest earlier r fault.Header = ⊤
 AsksRequest earlier r fault.Memory = ⊤
 
--- the same after earlier records
+-- what the test with this fault asks of a record after these earlier ones
 abbrev pub AsksRequestRecord : List Record → Record → RequestsFault → Type 0
 AsksRequestRecord earlier r why = AsksRequest (length earlier) r why
 

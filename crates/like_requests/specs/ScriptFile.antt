@@ -45,7 +45,7 @@ AsksEntry earlier r fault.TooMany = earlier < max_entries
 AsksEntry earlier r fault.Read = ⊤
 AsksEntry earlier r fault.Memory = ⊤
 
--- the same after earlier records
+-- what the test with this fault asks of a record after these earlier ones
 abbrev pub AsksEntryRecord : List Record → Record → ScriptFault → Type 0
 AsksEntryRecord earlier r why = AsksEntry (length earlier) r why
 

@@ -1,4 +1,4 @@
-ghost use Rattle.std.specs.Prelude.{◌≡◌, ◌<◌, ◌≤◌, [], ◌∷◌, ◌++◌, Contains, IfErr, OnOk, length, option_map, slice_get, string_bytes};
+ghost use Rattle.std.specs.Prelude.{◌≡◌, ◌<◌, ◌≤◌, [], ◌∷◌, ◌++◌, Contains, OnOk, length, option_map, slice_get};
 ghost use Rattle.like_limits.specs.Limits.{max_count, max_pages};
 ghost use Rattle.like_requests.specs.Pages.{AreEntries, IsName, names, number_of};
 

@@ -1,10 +1,10 @@
-ghost use Rattle.std.specs.Prelude.{◌≡◌, ◌⊎◌, ◌+◌, ◌<◌, ◌≤◌, ℕ, List, [], ◌∷◌, IfErr, MatchOption, MatchResult, Some, Ok, Err, bytes_eq, codes, length, map, option_map, string_bytes};
+ghost use Rattle.std.specs.Prelude.{◌≡◌, ◌+◌, ◌<◌, List, IfErr, MatchOption, MatchResult, Some, Ok, Err, bytes_eq, codes, length, map, option_map};
 ghost use Rattle.std.specs.List.{AllByRecursion};
 ghost use Rattle.like_records.specs.Reading.{ReadFailed, records_of};
 ghost use Rattle.like_records.specs.First.{FailsFirst};
-ghost use Rattle.like_requests.specs.Pages.{IsName, Page, names};
-ghost use Rattle.like_requests.specs.PagesFile.{AsksPage, AsksPageRecord, IsPagesFault, IsPagesFile, IsSplitMark, fault_of, page_of, page_tests, pages_header};
-ghost use Rattle.like_records.specs.Rows.{IsFirstFailed, PassAll, Record};
+ghost use Rattle.like_requests.specs.Pages.{IsName, names};
+ghost use Rattle.like_requests.specs.PagesFile.{AsksPage, AsksPageRecord, IsPagesFault, IsPagesFile, IsSplitMark, fault_of, page_of, page_tests};
+ghost use Rattle.like_records.specs.Rows.{Record};
 
 use crate::entries::{Entries, Initial};
 use crate::pages::{MAX_COUNT, MAX_NAME, MAX_PAGES, Pages};

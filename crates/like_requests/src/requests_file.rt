@@ -1,10 +1,10 @@
-ghost use Rattle.std.specs.Prelude.{◌≡◌, ◌+◌, ◌-◌, ◌<◌, ◌∷◌, List, IfErr, MatchOption, MatchResult, Some, map, option_map};
+ghost use Rattle.std.specs.Prelude.{◌≡◌, ◌+◌, ◌-◌, ◌<◌, List, IfErr, MatchOption, MatchResult, Some, map, option_map};
 ghost use Rattle.std.specs.List.{AllByRecursion};
 ghost use Rattle.like_records.specs.Reading.{ReadFailed, records_of};
 ghost use Rattle.like_records.specs.First.{FailsFirst};
 ghost use Rattle.like_requests.specs.Pages.{number_of};
-ghost use Rattle.like_requests.specs.RequestsFile.{AsksRequest, AsksRequestRecord, IsOp, IsRequestsFault, IsRequestsFile, fault_of, op_of, page_ref, request_made, request_tests, requests_header};
-ghost use Rattle.like_records.specs.Rows.{PassAll, Record};
+ghost use Rattle.like_requests.specs.RequestsFile.{AsksRequest, AsksRequestRecord, IsOp, IsRequestsFault, IsRequestsFile, fault_of, op_of, page_ref, request_made, request_tests};
+ghost use Rattle.like_records.specs.Rows.{Record};
 
 use crate::pages::Pages;
 use crate::request::{Op, PageRef, Request};

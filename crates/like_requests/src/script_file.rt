@@ -1,11 +1,11 @@
-ghost use Rattle.std.specs.Prelude.{◌≡◌, ◌-◌, ◌<◌, ◌≤◌, ◌∷◌, IfErr, IfOk, List, MatchOption, MatchResult, Some, length, map, option_map};
+ghost use Rattle.std.specs.Prelude.{◌≡◌, ◌-◌, ◌<◌, ◌≤◌, IfErr, IfOk, List, MatchOption, MatchResult, Some, length, map, option_map};
 ghost use Rattle.std.specs.List.{AllByRecursion};
 ghost use Rattle.like_records.specs.Decimal.{decimal_value};
 ghost use Rattle.like_records.specs.Reading.{ReadFailed, records_of};
 ghost use Rattle.like_records.specs.First.{FailsFirst};
-ghost use Rattle.like_records.specs.Rows.{PassAll, Record};
+ghost use Rattle.like_records.specs.Rows.{Record};
 ghost use Rattle.like_limits.specs.Limits.{max_entries};
-ghost use Rattle.like_requests.specs.ScriptFile.{AsksEntry, AsksEntryRecord, IsEntry, IsIndex, IsScriptFault, IsScriptFile, Names, turned_of, entry_tests, fault_of, named, script_header};
+ghost use Rattle.like_requests.specs.ScriptFile.{AsksEntry, AsksEntryRecord, IsEntry, IsIndex, IsScriptFault, IsScriptFile, Names, turned_of, entry_tests, fault_of, named};
 
 use crate::script::Turned;
 use like_records::{FileKind, Records, RecordsFault, decimal, read_file};

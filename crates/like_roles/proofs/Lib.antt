@@ -1,3 +1,4 @@
+-- What a worker's and the coordinator's turns do and keep: counting, merging, notes and choices.
 pub mod InBlocks
 pub mod Counting
 pub mod Effects

@@ -1,3 +1,4 @@
+-- What each step of a station keeps, how its slice is merged page by page, and what a lead chooses.
 pub mod Choosing
 pub mod Entering
 pub mod Filling

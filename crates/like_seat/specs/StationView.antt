@@ -57,6 +57,6 @@ pub record IsStationOf {W : Type 0} (post : WorkerSeatView) (stash : StashView W
   pub few : all_added (additions_among post.did) + sum slice ≤ post.opening.limits.likes
   pub waiting : IsStash stash
 
--- that is true of a station
+-- what is true of every station: of its post, its stash and its slice
 abbrev pub IsStation : {W : Type 0} → StationView W → Type 0
 IsStation s = IsStationOf s.post s.stash s.slice

@@ -1,3 +1,4 @@
+-- Why run lists are serial: sums, counts and answers along one order of steps, and the store that it gives.
 pub mod Weigh
 pub mod Seen
 pub mod Parts

@@ -43,7 +43,7 @@ RightIsOneThread =
     → IsRightReport setup plans r
     → (serial : List Ran) × IsRunOf (workload_by setup plans serial) setup.workers r serial
 
--- and the other way round
+-- a report that is that of one thread is right end to end
 abbrev pub OneThreadIsRight : Type 0
 OneThreadIsRight =
     (setup : Setup) (plans : List (List Request)) (r : Report) (serial : List Ran)

@@ -1,3 +1,4 @@
+-- What clients' calls and the desk keep, and why all that all clients did is what one thread could have done.
 pub mod Backs
 pub mod Batches
 pub mod Clients

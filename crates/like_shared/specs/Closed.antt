@@ -27,7 +27,7 @@ pub record LeadsTo (s : SharedService) (k : ServiceKeeper) (driver : DriverView)
   pub seats_lead : AreEndsOf (first_seats s) (seats_told k) seats
   pub whole : AreItsSeats driver seats
 
--- its driver, from its opening to there
+-- the driver of a shared service, from its opening to what its clients told leads to
 abbrev pub driver_end : {s : SharedService} {k : ServiceKeeper} {driver : DriverView} {seats : List LiveView}
     → LeadsTo s k driver seats → DriverEnd
 driver_end {s} {k} {driver} it =

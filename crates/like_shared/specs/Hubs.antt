@@ -42,7 +42,7 @@ abbrev pub IsHubNotClosed : Hub → HubNotClosed → Type 0
 IsHubNotClosed h DeskTaken = ⊤
 IsHubNotClosed h (Open why) = (k : ServiceKeeper) × IsLastKeeper h k × IsNotClosed h.service k why
 
--- the same if all cards are back: what they told leads to that keeper
+-- a hub is closed with all cards back: its service is, by the keeper to which what the cards told leads
 pub record IsClosedWith (h : Hub) (told : Named DeskDeed) (counts : List ℕ) : Type 0 where
   pub keeper : ServiceKeeper
   pub last : Leads DeskDoes (first_of h.desk) told keeper

@@ -1,3 +1,4 @@
+-- A service that threads share: its desk, its clients and their passes, its end, and all calls as one thread's.
 pub mod Batches
 pub mod Closed
 pub mod Deeds

@@ -83,11 +83,12 @@ pub record AreLogged {A : Type 0} (before : Client) (seat : ℕ) (deeds : A → 
   pub driver : driver_log after ≡ driver_log before
   pub held : held_by after ≡ held_by before
 
--- so is one call
+-- one call of a seat is in a client's log, with what it was told; or the seat was busy
 abbrev pub IsLogged : {A : Type 0} → Client → ℕ → (A → SeatDeed) → Result A Busy → Client → Type 0
 IsLogged before seat deed result after = AreLogged before seat (λ told. deed told ∷ []) result after
 
--- and a call of the driver
+-- a call of the driver is in a client's log, with what it was told; or the driver was busy. The client holds the seats
+-- that it held
 pub record IsDriverLogged {A : Type 0} (before : Client) (deed : A → DriverDeed) (result : Result A Busy)
     (after : Client) : Type 0 where
   pub driver : MatchResult result (λ told. driver_log after ≡ driver_log before ++ deed told ∷ [])

@@ -27,7 +27,7 @@ pub record SeatEnd : Type 0 where
   pub told : Named SeatDeed
   pub leads : Leads SeatDoes first told last
 
--- and its driver
+-- the driver of a shared service, from its opening to its end: what all clients told of it led from one to the other
 pub record DriverEnd : Type 0 where
   pub first : DriverView
   pub last : DriverView
@@ -64,7 +64,7 @@ ShowsLast first before (Lasts from pages true) =
     → slice_index pages i ≡ page_or_none (last_told first before (user_at first (from + i)))
 ShowsLast first before d = ⊤
 
--- so are all that clients were told at a seat
+-- all last likes that clients were told at a seat are those after the calls before
 abbrev pub ShowsLasts : SeatEnd → Type 0
 ShowsLasts e =
     (before after : List SeatDeed) (d : SeatDeed) → deeds_in e.leads.order ≡ before ++ d ∷ after

@@ -1,3 +1,4 @@
+-- Which users a worker owns, and by which rank. What slices, stashes and sets of pages have, kept as they are.
 pub mod Apart
 pub mod AtHome
 pub mod ByPage

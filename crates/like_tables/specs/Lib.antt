@@ -1,3 +1,4 @@
+-- A worker's tables: its share of the users, their last likes, its slice, its split pages and its stash.
 pub mod Factors
 pub mod Home
 pub mod Homes

@@ -25,7 +25,7 @@ has_split s page = is_split s.splits page
 abbrev pub likes_in : SplitSlice → ℕ → ℕ
 likes_in s page = if has_split s page then slice_index s.counts (bucket_in s page) else 0
 
--- and of each of this many pages
+-- how many likes it has of each of this many pages
 abbrev pub by_page : SplitSlice → ℕ → List ℕ
 by_page s pages = map (likes_in s) (range_with_len 0 pages)
 

@@ -11,7 +11,7 @@ use cases::{Case, Kind, changed, pages_files, prefixes, reads, request_files, sc
 use like_requests::{
     Pages, PagesFault, Request, RequestsFault, read_pages, read_requests, read_script,
 };
-use std::alloc::{AllocError, Global};
+use std::alloc::Global;
 use std::fmt::Debug;
 use std::io::Read;
 use std::process::Abort;
@@ -29,14 +29,29 @@ pub fn assert_that(rt: &impl Abort, holds: bool, wrong: &str) {
     }
 }
 
-/// Stops the test unless a text is as is wanted.
-pub fn assert_text(rt: &impl Abort, text: String, wanted: &str) {
-    assert_alike(rt, &text, wanted);
-    drop(text);
+/// Stops the test unless what came in a case is as is wanted.
+pub fn assert_same<T: PartialEq + Debug + Drop>(rt: &impl Abort, case: &str, came: T, wanted: T) {
+    assert!(rt; came == wanted, "{case}: {came:?}, not {wanted:?}");
 }
 
-fn assert_alike(rt: &impl Abort, text: &str, wanted: &str) {
-    assert!(rt; text == wanted, "{text}, and not {wanted}");
+/// Stops the test unless what came at a step of a case is as is wanted.
+pub fn assert_step<T: PartialEq + Debug + Drop>(
+    rt: &impl Abort,
+    case: &str,
+    step: usize,
+    came: T,
+    wanted: T,
+) {
+    assert!(rt;
+        came == wanted,
+        "{case}, step {step}: {came:?}, not {wanted:?}"
+    );
+}
+
+/// Stops the test unless a text is as is wanted.
+pub fn assert_text(rt: &impl Abort, text: String, wanted: &str) {
+    assert_same(rt, "a text", text.as_str(), wanted);
+    drop(text);
 }
 
 /// A list of these.
@@ -73,7 +88,7 @@ pub fn push<T: Drop>(rt: &impl Abort, items: &mut Vec<T>, item: T)
 
 /// Stops the test unless bytes are as is wanted.
 pub fn assert_bytes(rt: &impl Abort, bytes: Vec<u8>, wanted: &[u8]) {
-    assert_that(rt, bytes.as_slice() == wanted, "other bytes");
+    assert_same(rt, "bytes", bytes.as_slice(), wanted);
 }
 
 /// The parts of a case before a mark and behind it.

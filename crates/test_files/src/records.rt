@@ -1,7 +1,7 @@
 //! What is read of the records of a file, and of numbers.
 mod csv;
 
-use crate::files::{assert_that, halves, push};
+use crate::files::{assert_same, assert_step, assert_that, halves, push};
 pub use csv::csv_cases;
 use like_records::{Records, RecordsFault, decimal};
 use std::alloc::Global;
@@ -47,18 +47,18 @@ fn ends<R: Read>(
     answer == wanted && records.field_count() == 0 && records.read_next() == wanted
 }
 
-// Whether a file has these records. It must end so.
-fn is_read<R: Read + Drop>(
+// Stops the test unless a file has these records, and ends so.
+fn assert_read<R: Read + Drop>(
     rt: &impl Abort,
     alloc: Global,
     file: R,
     wanted: &[u8],
     end: Result<bool, RecordsFault>,
-) -> bool {
+) {
     let mut records = Records::new(alloc, file);
     let out = out_of(rt, alloc, &mut records, end);
     drop(records);
-    out.as_slice() == wanted
+    assert_same(rt, "records", out.as_slice(), wanted);
 }
 
 // The records that are left, which must end so.
@@ -99,17 +99,8 @@ fn byte_of(byte: u8) -> u8 {
 // Stops the test unless a text is read as others read it.
 fn assert_alike(rt: &impl Abort, alloc: Global, case: &str) {
     let (text, records) = halves(rt, case, "=>");
-    let is_alike = is_alike(
-        rt,
-        alloc,
-        &bytes(rt, alloc, text),
-        &bytes(rt, alloc, records),
-    );
-    assert_that(rt, is_alike, case);
-}
-
-fn is_alike(rt: &impl Abort, alloc: Global, file: &[u8], records: &[u8]) -> bool {
-    is_read(rt, alloc, file, records, Ok(false))
+    let (text, records) = (bytes(rt, alloc, text), bytes(rt, alloc, records));
+    assert_read(rt, alloc, text.as_slice(), &records, Ok(false));
 }
 
 #[test]
@@ -137,11 +128,7 @@ fn all_records() -> &'static [(&'static [u8], &'static [u8])] {
 #[test]
 fn gives_each_record_in_order(rt: HostRuntime) {
     for (file, records) in all_records() {
-        assert_that(
-            &rt,
-            is_alike(&rt, rt.alloc(), *file, *records),
-            "other records",
-        );
+        assert_read(&rt, rt.alloc(), *file, *records, Ok(false));
     }
 }
 
@@ -153,11 +140,7 @@ fn two_rows() -> &'static [u8] {
 fn a_failed_read_stays_failed(rt: HostRuntime) {
     let file = Trickle::new(two_rows(), 11);
     let end = Err(RecordsFault::Read);
-    assert_that(
-        &rt,
-        is_read(&rt, rt.alloc(), file, b"like|1|;", end),
-        "other records",
-    );
+    assert_read(&rt, rt.alloc(), file, b"like|1|;", end);
 }
 
 // Reads this many records.
@@ -196,9 +179,9 @@ fn all_fields() -> &'static [(&'static [u8], u32, &'static [&'static str], bool)
 
 #[test]
 fn compares_fields(rt: HostRuntime) {
-    for (file, number, fields, wanted) in all_fields() {
+    for (at, (file, number, fields, wanted)) in all_fields().iter().enumerate() {
         let has_fields = has_fields(&rt, rt.alloc(), *file, *number, *fields);
-        assert_that(&rt, has_fields == *wanted, "other fields");
+        assert_step(&rt, "fields", at, has_fields, *wanted);
     }
 }
 
@@ -240,8 +223,8 @@ fn all_numbers() -> &'static [(&'static str, usize, u64, Option<u64>)] {
 #[test]
 fn reads_numbers(rt: HostRuntime) {
     for (text, digits, limit, number) in all_numbers() {
-        let is_read = number_of(&rt, *text, *digits, *limit) == *number;
-        assert_that(&rt, is_read, *text);
+        let came = number_of(&rt, *text, *digits, *limit);
+        assert_same(&rt, *text, came, *number);
     }
 }
 

@@ -1,5 +1,5 @@
 //! Settings and what is said of them, scripts that fit a run, and the verdict of a request.
-use crate::files::{assert_that, one_page, push, requests};
+use crate::files::{assert_same, assert_step, one_page, push, requests};
 use SettingsFault::{Hot, Plan, Stash, Submitters, Turns, Users, Workers};
 use Verdict::{Accepted, OtherHome, UnknownPage, UnknownUser};
 use like_requests::{
@@ -90,21 +90,21 @@ fn setup(rt: &impl Abort, alloc: Global, numbers: &[u32; 4], hot: Option<u32>) -
     }
 }
 
-// Whether the settings of a case are answered as is wanted.
-fn is_answered(rt: &impl Abort, alloc: Global, case: &Case) -> bool {
+// Asserts that the settings of a case, which has this number, are answered as is wanted.
+fn assert_answered(rt: &impl Abort, alloc: Global, number: usize, case: &Case) {
     let (numbers, hot, submitters, wanted) = case;
     let setup = setup(rt, alloc, numbers, *hot);
     let plans = likes(rt, alloc, submitters);
-    let is_answered = check_setup(&setup, &plans) == *wanted;
+    let came = check_setup(&setup, &plans);
     drop(plans);
     drop(setup);
-    is_answered
+    assert_step(rt, "settings", number, came, *wanted);
 }
 
 #[test]
 fn checks_the_settings(rt: HostRuntime) {
-    for case in all_settings() {
-        assert_that(&rt, is_answered(&rt, rt.alloc(), case), "another answer");
+    for (number, case) in all_settings().iter().enumerate() {
+        assert_answered(&rt, rt.alloc(), number, case);
     }
 }
 
@@ -116,32 +116,30 @@ fn judged(rt: &impl Abort, alloc: Global) -> Vec<Request> {
     requests(rt, alloc, judged_text()).expect(rt, "requests")
 }
 
-// Whether requests of submitter 0, one of two, are judged so, where there are two users.
-fn are_judged(requests: &[Request], verdicts: &[Verdict]) -> bool {
-    for (request, verdict) in requests.iter().zip(verdicts) {
-        if judge(request, 0, 2, 2) != *verdict {
-            return false;
-        }
+// Asserts that requests of submitter 0, one of two, are judged so, where there are two users.
+fn assert_judged(rt: &impl Abort, requests: &[Request], verdicts: &[Verdict]) {
+    assert_same(rt, "requests", requests.len(), verdicts.len());
+    for (number, (request, verdict)) in requests.iter().zip(verdicts).enumerate() {
+        let came = judge(request, 0, 2, 2);
+        assert_step(rt, "verdicts", number, came, *verdict);
     }
-    requests.len() == verdicts.len()
 }
 
 #[test]
 fn judges_in_order(rt: HostRuntime) {
     let verdicts = [UnknownUser, OtherHome, UnknownPage, UnknownUser, Accepted];
-    assert_that(
-        &rt,
-        are_judged(&judged(&rt, rt.alloc()), &verdicts),
-        "another verdict",
-    );
+    assert_judged(&rt, &judged(&rt, rt.alloc()), &verdicts);
 }
 
 #[test]
 fn names_the_first_entry_that_is_away(rt: HostRuntime) {
     let script = [Turned::OpenOne(4), Turned::Worker(2), Turned::Coordinator];
-    assert_that(&rt, check_script(&script, 3, 5).is_ok(), "away");
-    let fault = check_script(&script, 2, 5).err();
-    assert_that(&rt, fault == Some(SettingsFault::Script { at: 1 }), "not 1");
-    let fault = check_script(&script, 3, 4).err();
-    assert_that(&rt, fault == Some(SettingsFault::Script { at: 0 }), "not 0");
+    let none = check_script(&script, 3, 5).err();
+    assert_same(&rt, "three workers, five lists", none, None);
+    let second = check_script(&script, 2, 5).err();
+    let wanted = Some(SettingsFault::Script { at: 1 });
+    assert_same(&rt, "two workers", second, wanted);
+    let first = check_script(&script, 3, 4).err();
+    let wanted = Some(SettingsFault::Script { at: 0 });
+    assert_same(&rt, "four lists", first, wanted);
 }

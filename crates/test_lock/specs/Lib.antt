@@ -1,1 +1,2 @@
+-- A number under a lock, to which passes add.
 pub mod Adding

@@ -130,7 +130,11 @@ fn added_by_lost(alloc: Global, first: u64, more: u64) -> Result<Option<u64>, Al
 #[test]
 fn two_threads_add(rt: HostRuntime) -> Result<(), Fail> {
     let (value, added) = added_by_two(&rt, rt.alloc(), 5, 3, 4)?;
-    assert!(rt; value == 5 + added && added >= 3 && added <= 7);
+    assert_eq!(rt; value, 5 + added);
+    assert!(rt;
+        added >= 3 && added <= 7,
+        "{added} is less than 3 or more than 7"
+    );
     Ok(())
 }
 

@@ -16,7 +16,7 @@ pub record IsAt (plan : List Request) (next : ℕ) (v : WorkerView) : Type 0 whe
   pub few : length plan ≤ max_requests
   pub there : All (λ r. IsThere (pages_of v.post) r.page) plan
 
--- and no submitter is tried
+-- the worker is there in the plan, and tries no submitter
 pub record IsPlaying (plan : List Request) (next : ℕ) (v : WorkerView) : Type 0 where
   pub at : IsAt plan next v
   pub settled : v.pending ≡ None

@@ -1,6 +1,8 @@
-//! What the tests assert, with its message. It is formatted here, so that their own proofs have none of it.
+//! What the tests assert. A failure tells what came, what was wanted and at which step. It is formatted here, so that
+//! the tests' own proofs have none of it.
 ghost use Rattle.std.specs.Prelude.{IsTrue};
 
+use std::fmt::Debug;
 use std::process::Abort;
 
 /// Asserts what must hold of a case.
@@ -10,12 +12,36 @@ pub fn assert_named(rt: &impl Abort, holds: bool, case: &str)
     assert!(rt; holds, "{case}");
 }
 
-/// Asserts that a call of a case is answered as it says.
-pub fn assert_call(rt: &impl Abort, answered: bool, case: &str, call: usize) {
-    assert!(rt; answered, "{case}: call {call}");
+/// Asserts that what came in a case is what was wanted.
+pub fn assert_same<T: PartialEq + Debug + Drop>(rt: &impl Abort, case: &str, came: T, wanted: T) {
+    assert!(rt; came == wanted, "{case}: {came:?}, not {wanted:?}");
 }
 
-/// Asserts that a call of a case, which has a number, is answered as it says.
-pub fn assert_call_at(rt: &impl Abort, answered: bool, case: usize, call: usize) {
-    assert!(rt; answered, "case {case}: call {call}");
+/// Asserts that what came at a step of a case is what was wanted.
+pub fn assert_step<T: PartialEq + Debug + Drop>(
+    rt: &impl Abort,
+    case: &str,
+    step: usize,
+    came: T,
+    wanted: T,
+) {
+    assert!(rt;
+        came == wanted,
+        "{case}, step {step}: {came:?}, not {wanted:?}"
+    );
+}
+
+/// Asserts that what came at a step of a part of a case is what was wanted.
+pub fn assert_part<T: PartialEq + Debug + Drop>(
+    rt: &impl Abort,
+    case: &str,
+    part: usize,
+    step: usize,
+    came: T,
+    wanted: T,
+) {
+    assert!(rt;
+        came == wanted,
+        "{case}, part {part}, step {step}: {came:?}, not {wanted:?}"
+    );
 }

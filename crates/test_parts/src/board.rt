@@ -14,7 +14,7 @@ mod party;
 mod scripts;
 mod walker;
 
-use crate::asserts::assert_named;
+use crate::asserts::{assert_named, assert_same};
 use crate::pure_core::small_limits;
 use calls::{OnPost, Step};
 use leader::Leader;
@@ -225,23 +225,17 @@ fn walked(
     }
 }
 
-// Whether a page has this count at the end, and each worker added this many likes to it.
-fn is_end(end: End, count: u64, first: u64, second: u64) -> bool {
-    let (now, likes) = end;
-    now == count && likes.0 == first && likes.1 == second
-}
-
 #[test]
 fn walks_through_three_phases(rt: HostRuntime) -> Result<(), Fail> {
     let end = walked(&rt, rt.alloc(), 2, 10, true, three_phases())?;
-    assert_named(&rt, is_end(end, 13, 3, 0), "the end");
+    assert_same(&rt, "the end", end, (13, (3, 0)));
     Ok(())
 }
 
 #[test]
 fn walks_through_a_hot_phase(rt: HostRuntime) -> Result<(), Fail> {
     let end = walked(&rt, rt.alloc(), 1, 5, false, hot_phase())?;
-    assert_named(&rt, is_end(end, 7, 2, 0), "the end");
+    assert_same(&rt, "the end", end, (7, (2, 0)));
     Ok(())
 }
 
@@ -332,27 +326,27 @@ fn announces(coord: &mut CoordSeat, board: &Board) -> bool
     true
 }
 
-// The only worker is gone. Whether it comes back while the phase isn't ending, and not while it is.
-fn comes_back<P: Returns>(board: &Board, coord: &mut CoordSeat, post: &mut P) -> bool
+// The only worker is gone. It comes back while the phase isn't ending, and not while it is.
+fn comes_back<P: Returns>(rt: &impl Abort, board: &Board, coord: &mut CoordSeat, post: &mut P)
     requires here { coord_board coord.old ≡ board_id board.now }
     requires gone { (P.view post.old).state ≡ Gone }
     requires lets { LetsReturn (P.view post.old).opening.limits }
 {
-    coord.look(board).all_gone
-        && comes_and_goes(post)
-        && announces(coord, board)
-        && post.come_back().is_none()
+    assert_named(rt, coord.look(board).all_gone, "the only worker is gone");
+    assert_named(rt, comes_and_goes(post), "it comes back into phase 0");
+    assert_named(rt, announces(coord, board), "the end is announced");
+    assert_same(rt, "a return while the phase ends", post.come_back(), None);
 }
 
-// Whether a worker that is gone comes back into phase 0, where as many tries fail first.
-fn comes_back_after<P: Returns + Drop>(post: P, misses: u32) -> bool
+// The phase into which a worker that is gone comes back, if it does, where as many tries fail first.
+fn comes_back_after<P: Returns + Drop>(post: P, misses: u32) -> Option<u64>
     requires gone { (P.view post).state ≡ Gone }
     requires lets { LetsReturn (P.view post).opening.limits }
 {
-    come_back(&mut Missing { post, misses }) == Some(0)
+    come_back(&mut Missing { post, misses })
 }
 
-// The last worker of a board retires, and tries to come back.
+// The last worker of a board retires, and tries to come back: the phase into which it does.
 fn last_tries(
     rt: &impl Abort,
     board: &Board,
@@ -360,7 +354,7 @@ fn last_tries(
     seats: &mut Vec<WorkerSeat>,
     limits: Limits,
     misses: u32,
-) -> bool
+) -> Option<u64>
     requires opened { AreOpened (board_id board.now) 1 false limits coord.now seats.old.items }
     requires lets { LetsReturn limits }
 {
@@ -369,8 +363,8 @@ fn last_tries(
     comes_back_after(post, misses)
 }
 
-// Whether the only worker of a new service comes back, where as many tries fail first.
-fn returns_after(rt: &impl Abort, alloc: Global, misses: u32) -> Result<bool, Fail> {
+// The phase into which the only worker of a new service comes back, if it does, where as many tries fail first.
+fn returns_after(rt: &impl Abort, alloc: Global, misses: u32) -> Result<Option<u64>, Fail> {
     let limits = small_limits();
     let (board, coord, mut seats) = opened(alloc, 1, 1, 10, false, limits)?;
     Ok(last_tries(rt, &board, &coord, &mut seats, limits, misses))
@@ -380,9 +374,9 @@ fn returns_after(rt: &impl Abort, alloc: Global, misses: u32) -> Result<bool, Fa
 #[test]
 fn tries_64_times(rt: HostRuntime) -> Result<(), Fail> {
     let last = returns_after(&rt, rt.alloc(), 63)?;
-    assert_named(&rt, last, "the last try");
+    assert_same(&rt, "the last try", last, Some(0));
     let none = returns_after(&rt, rt.alloc(), 64)?;
-    assert_named(&rt, !none, "no try is left");
+    assert_same(&rt, "no try is left", none, None);
     Ok(())
 }
 
@@ -399,7 +393,7 @@ fn last_comes_back(
 {
     let mut post = last_post(rt, seats, board, coord, limits);
     post.retire();
-    assert_named(rt, comes_back(board, coord, &mut post), "comes back");
+    comes_back(rt, board, coord, &mut post);
 }
 
 #[test]
@@ -420,10 +414,17 @@ fn likes_by_posts(rt: HostRuntime) -> Result<(), Fail> {
     plays(&rt, rt.alloc(), 2, 10, true, Limits::of_run(), likes())
 }
 
-// Whether the last page of the most has the greatest count, and one more after a like.
-fn likes_last_page<P: Glances>(walker: &mut Walker<P>) -> bool {
-    walker.answers(OnPost::Like(1_023, 1_000_000_000_000_000_000))
-        && walker.answers(OnPost::Read(1_023, 1_000_000_000_000_000_001))
+// Likes the last page of the most, which has the greatest count, and reads one more.
+fn likes_last_page<P: Glances>(rt: &impl Abort, walker: &mut Walker<P>) {
+    let like = OnPost::Like(1_023, 1_000_000_000_000_000_000);
+    assert_same(
+        rt,
+        "a like of the last page",
+        walker.makes(like),
+        Some(like),
+    );
+    let read = OnPost::Read(1_023, 1_000_000_000_000_000_001);
+    assert_same(rt, "the last page", walker.makes(read), Some(read));
 }
 
 // The last of sixteen workers likes the last page of a board that has the most.
@@ -433,7 +434,7 @@ fn likes_last(rt: &impl Abort, board: &Board, coord: CoordSeat, mut seats: Vec<W
     assert_named(rt, seats.len() == 16, "sixteen seats");
     let limits = Limits::of_run();
     let mut last = last_walker(rt, &mut seats, board, &coord, limits, 1_024, true);
-    assert_named(rt, likes_last_page(&mut last), "the last page");
+    likes_last_page(rt, &mut last);
 }
 
 // A board of the most workers and pages, with the greatest counts.

@@ -4,10 +4,10 @@ ghost use Rattle.like_core.specs.OpeningLimits.{AreLimits};
 
 mod cases;
 
-use crate::asserts::{assert_call, assert_named};
+use crate::asserts::{assert_named, assert_same, assert_step};
 use cases::{Case, LawfulWord, Step, cases, lawful_words, unlawful_words};
 use like_core::{
-    CoordSight, Core, Event, Form, Kind, Limits, NotNow, PhaseWord, Shown, check_events,
+    CoordSight, Core, Event, Form, Kind, Limits, NotNow, PhaseWord, Shown, Wrong, check_events,
 };
 use std::alloc::{AllocError, Global};
 use std::process::Abort;
@@ -27,18 +27,56 @@ fn core_of(
     Core::new(alloc, workers, counts.as_slice(), marks)
 }
 
+// Why an event may not happen, in words.
+fn reason_in_words(why: NotNow) -> &'static str {
+    match why {
+        NotNow::NoSuch => "no such worker or page",
+        NotNow::Phase => "not in this phase",
+        NotNow::Last => "the last phase",
+        NotNow::Full => "the largest count",
+    }
+}
+
+// What an event shows, or why it may not happen, in words and numbers.
+fn in_words(shown: Result<Shown, NotNow>) -> (&'static str, u64, [bool; 3]) {
+    let none = [false; 3];
+    match shown {
+        Ok(Shown::Seen(sight)) => ("seen", sight.number, [sight.ending, sight.waits, false]),
+        Ok(Shown::Coord(sight)) => {
+            let flags = [sight.ending, sight.all_in, sight.all_gone];
+            ("seen by the coordinator", sight.number, flags)
+        }
+        Ok(Shown::Done) => ("done", 0, none),
+        Ok(Shown::Sliced) => ("sliced", 0, none),
+        Ok(Shown::Old(count)) => ("count before", count, none),
+        Ok(Shown::Count(count)) => ("count", count, none),
+        Ok(Shown::Hot(mask)) => ("mask", mask, none),
+        Err(why) => (reason_in_words(why), 0, none),
+    }
+}
+
+// The place of the first wrong event, and why it may not happen.
+fn wrong_in_words(checked: Result<(), Wrong>) -> Option<(usize, &'static str)> {
+    match checked {
+        Ok(()) => None,
+        Err(wrong) => Some((wrong.index, reason_in_words(wrong.reason))),
+    }
+}
+
 // Asserts what a core shows at the steps of a case.
 fn assert_steps(rt: &impl Abort, core: &mut Core, case: &str, steps: &[Step]) {
     for at in 0..steps.len() {
         let (event, shown) = steps[at];
-        assert_call(rt, core.step(event) == shown, case, at);
+        let came = in_words(core.step(event));
+        assert_step(rt, case, at, came, in_words(shown));
     }
 }
 
 // Asserts what a core answers to the events of a case.
 fn assert_case(rt: &impl Abort, core: &mut Core, case: &Case) {
     let checked = check_events(core, case.events);
-    assert_named(rt, checked == case.checked, case.name);
+    let wanted = wrong_in_words(case.checked);
+    assert_same(rt, case.name, wrong_in_words(checked), wanted);
     assert_steps(rt, core, case.name, case.steps);
 }
 
@@ -52,39 +90,40 @@ fn answers_events(rt: HostRuntime) -> Result<(), Fail> {
     Ok(())
 }
 
-// Whether a core of one worker goes on to the next phase.
-fn goes_on(core: &mut Core, phase: u32) -> bool {
+// A core of one worker goes on to the next phase: the events that lead there, checked.
+fn goes_on(core: &mut Core, phase: u32) -> Result<(), Wrong> {
     let answer = if phase % 2 == 0 {
         Event::Acknowledge(0)
     } else {
         Event::Report(0)
     };
     let events = [Event::Announce, answer, Event::Release(0), Event::Look(0)];
-    check_events(core, &events) == Ok(())
+    check_events(core, &events)
 }
 
-// Whether the coordinator sees this phase, whose end was not announced.
-fn shows_phase(core: &mut Core, phase: u32) -> bool {
-    let sight = CoordSight {
+// What the coordinator sees of this phase, whose end was not announced.
+fn shown_in(phase: u32) -> Result<Shown, NotNow> {
+    Ok(Shown::Coord(CoordSight {
         number: u64::from(phase),
         ending: false,
         all_in: false,
         all_gone: false,
-    };
-    core.step(Event::CoordLook) == Ok(Shown::Coord(sight))
+    }))
 }
 
 // A core goes on to the last phase, whose end can't be announced.
 fn assert_last_phase(rt: &impl Abort, core: &mut Core, last_phase: u32) {
     for phase in 0..last_phase {
-        assert_call(rt, goes_on(core, phase), "phases", phase as usize);
+        let checked = goes_on(core, phase);
+        if checked.is_err() {
+            assert_step(rt, "phases", phase as usize, wrong_in_words(checked), None);
+        }
     }
-    assert_named(
-        rt,
-        core.step(Event::Announce) == Err(NotNow::Last),
-        "the last phase",
-    );
-    assert_named(rt, shows_phase(core, last_phase), "its number");
+    let announced = in_words(core.step(Event::Announce));
+    let wanted = in_words(Err(NotNow::Last));
+    assert_same(rt, "the last phase", announced, wanted);
+    let seen = in_words(core.step(Event::CoordLook));
+    assert_same(rt, "its number", seen, in_words(shown_in(last_phase)));
 }
 
 #[test]
@@ -121,31 +160,37 @@ fn stays_in_its_last_phase(rt: HostRuntime) -> Result<(), Fail> {
     Ok(())
 }
 
+// The numbers of limits: last phase, likes, pages, hot pages and seats; and whether the form is that of a run.
+fn numbers_of(limits: Limits) -> (u64, u64, u32, u32, u32, bool) {
+    let is_of_run = limits.form == Form::Bits;
+    (
+        limits.last_phase,
+        limits.likes,
+        limits.pages,
+        limits.hot,
+        limits.seats,
+        is_of_run,
+    )
+}
+
 #[test]
 fn limits_are_these_numbers(rt: HostRuntime) -> Result<(), Fail> {
-    let run = Limits {
-        last_phase: 16_777_214,
-        likes: 64_000_000,
-        pages: 1_024,
-        hot: 64,
-        seats: 16,
-        form: Form::Bits,
-    };
-    assert_named(&rt, Limits::of_run() == run, "a run");
-    let service = Limits {
-        last_phase: 281_474_976_710_654,
-        likes: 72_057_594_037_927_936,
-        pages: 16_777_216,
-        hot: 16_777_216,
-        seats: 64,
-        form: Form::Counts,
-    };
-    assert_named(&rt, Limits::of_service() == service, "a service");
+    let run = (16_777_214, 64_000_000, 1_024, 64, 16, true);
+    assert_same(&rt, "a run", numbers_of(Limits::of_run()), run);
+    let service = (
+        281_474_976_710_654,
+        72_057_594_037_927_936,
+        16_777_216,
+        16_777_216,
+        64,
+        false,
+    );
+    assert_same(&rt, "a service", numbers_of(Limits::of_service()), service);
     Ok(())
 }
 
-// Whether a word is made of these parts, and taken apart into them.
-fn is_word(word: LawfulWord) -> bool {
+// The number of a word's parts, and whether that is taken apart into them. None if the parts are no word's.
+fn packed(word: LawfulWord) -> Option<(u64, bool)> {
     let parts = PhaseWord::new(
         word.kind,
         word.workers,
@@ -154,8 +199,8 @@ fn is_word(word: LawfulWord) -> bool {
         word.number,
     );
     match parts {
-        Some(made) => made.pack() == word.packed && PhaseWord::unpack(word.packed) == parts,
-        None => false,
+        Some(made) => Some((made.pack(), PhaseWord::unpack(word.packed) == parts)),
+        None => None,
     }
 }
 
@@ -163,16 +208,14 @@ fn is_word(word: LawfulWord) -> bool {
 fn packs_and_unpacks_words(rt: HostRuntime) -> Result<(), Fail> {
     let lawful = lawful_words();
     for at in 0..lawful.len() {
-        assert_call(&rt, is_word(lawful[at]), "lawful words", at);
+        let word = lawful[at];
+        let wanted = Some((word.packed, true));
+        assert_step(&rt, "lawful words", at, packed(word), wanted);
     }
     let unlawful = unlawful_words();
     for at in 0..unlawful.len() {
-        assert_call(
-            &rt,
-            PhaseWord::unpack(unlawful[at]).is_none(),
-            "unlawful words",
-            at,
-        );
+        let is_word = PhaseWord::unpack(unlawful[at]).is_some();
+        assert_step(&rt, "unlawful words", at, is_word, false);
     }
     Ok(())
 }
@@ -189,15 +232,12 @@ fn steps_lead_to_words_of_idle_workers(rt: HostRuntime) -> Result<(), Fail> {
     for more in gone {
         ending = ending.saturating_add(more);
     }
-    assert_named(&rt, ending == 234_881_297, "the end of phase 0");
+    assert_same(&rt, "the end of phase 0", ending, 234_881_297);
     let is_joined =
         matches!(PhaseWord::unpack(ending), Some(word) if word.kind == Kind::JoinedEnding);
-    assert_named(&rt, is_joined, "the kind of phase 0");
-    assert_named(
-        &rt,
-        form.released(234_881_297) == 1_099_746_508_818,
-        "phase 1",
-    );
+    assert_named(&rt, is_joined, "phase 0 is joined and ending");
+    let released = form.released(234_881_297);
+    assert_same(&rt, "phase 1", released, 1_099_746_508_818);
     Ok(())
 }
 
@@ -207,21 +247,15 @@ const ALL_IN: u64 = 0xffff_ffff_fffd_02ff;
 #[test]
 fn counts_64_seats(rt: HostRuntime) -> Result<(), Fail> {
     let form = Form::Counts;
-    let sight = CoordSight {
-        number: 281_474_976_710_653,
-        ending: true,
-        all_in: true,
-        all_gone: false,
-    };
-    assert_named(&rt, form.coord_sight_in(ALL_IN, 64) == sight, "all are in");
+    let sight = form.coord_sight_in(ALL_IN, 64);
+    assert_same(&rt, "the phase", sight.number, 281_474_976_710_653);
+    let flags = (sight.ending, sight.all_in, sight.all_gone);
+    assert_same(&rt, "all are in", flags, (true, true, false));
     let one_less = form.coord_sight_in(ALL_IN - form.answer(63), 64);
-    assert_named(&rt, !one_less.all_in, "one is not in");
+    assert_same(&rt, "one is not in", one_less.all_in, false);
     assert_named(&rt, form.sight_in(ALL_IN, 1).waits, "seat 1 waits");
     assert_named(&rt, !form.sight_in(ALL_IN, 0).waits, "seat 0 does not wait");
-    assert_named(
-        &rt,
-        form.released(ALL_IN) == 0xffff_ffff_fffe_0200,
-        "the last phase",
-    );
+    let released = form.released(ALL_IN);
+    assert_same(&rt, "the last phase", released, 0xffff_ffff_fffe_0200);
     Ok(())
 }

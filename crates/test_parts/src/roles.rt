@@ -10,13 +10,13 @@ mod play;
 mod player;
 mod scenes;
 
-use crate::asserts::assert_named;
+use crate::asserts::{assert_part, assert_same, assert_step};
 use gates::Expecting;
 use like_core::Post;
 use like_requests::{Request, Setup, check_setup, read_pages};
-use like_roles::{Added, Chosen, Ran, Terms, Took, WorkerLog};
+use like_roles::{Added, Chosen, Ran, Reply, Terms, Took, WorkerLog};
 use like_tables::Users;
-use play::{Play, Step, board_of};
+use play::{Play, board_of};
 use scenes::{
     Done, Scene, addition_scenes, count_scenes, hot_limit, pair_scenes, phase_scenes, rounds,
     stash_scenes,
@@ -37,41 +37,95 @@ fn setup_of(alloc: Global, scene: &Scene) -> Result<Setup, Fail> {
     })
 }
 
-// Whether users liked these pages last.
-fn has_last(users: &Users, last: &[(u32, Option<u32>)]) -> bool {
-    for (user, page) in last {
-        if !users.owns(*user) || users.last(*user) != *page {
-            return false;
+// The numbers of what was taken at a place: phase, submitter and number.
+fn took_at(taken: &[Took], at: usize) -> Option<(u32, u32, u32)> {
+    match taken.get(at) {
+        Some(took) => Some((took.phase, took.submitter, took.number)),
+        None => None,
+    }
+}
+
+// The numbers of what ran at a place: phase, submitter and number, whether it was stashed, and the reply.
+fn ran_at(ran: &[Ran], at: usize) -> Option<(u32, u32, u32, bool, Reply)> {
+    match ran.get(at) {
+        Some(it) => Some((it.phase, it.submitter, it.number, it.stashed, it.reply)),
+        None => None,
+    }
+}
+
+// The numbers of an addition at a place: page, phase, entries before it, count before it and likes.
+fn added_at(adds: &[Added], at: usize) -> Option<(u32, u32, u32, u64, u64)> {
+    match adds.get(at) {
+        Some(it) => Some((it.page, it.phase, it.at, it.old, it.n)),
+        None => None,
+    }
+}
+
+// The phase and the mask of a choice at a place.
+fn chosen_at(chosen: &[Chosen], at: usize) -> Option<(u32, u64)> {
+    match chosen.get(at) {
+        Some(choice) => Some((choice.phase, choice.mask)),
+        None => None,
+    }
+}
+
+// The page that a user liked last. None if the worker doesn't serve the user.
+fn last_of(users: &Users, user: u32) -> Option<Option<u32>> {
+    if !users.owns(user) {
+        return None;
+    }
+    Some(users.last(user))
+}
+
+// Asserts what a worker took, and what it ran.
+fn assert_run(rt: &impl Abort, case: &str, worker: usize, log: &WorkerLog, done: &Done) {
+    for at in 0..log.taken.len().max(done.taken.len()) {
+        let took = took_at(&log.taken, at);
+        assert_part(rt, case, worker, at, took, took_at(done.taken, at));
+    }
+    for at in 0..log.ran.len().max(done.ran.len()) {
+        let ran = ran_at(&log.ran, at);
+        assert_part(rt, case, worker, at, ran, ran_at(done.ran, at));
+    }
+}
+
+// Asserts what a worker added. Where additions are not noted, there was no room for any.
+fn assert_added(rt: &impl Abort, scene: &Scene, worker: usize, adds: &Vec<Added>, want: &[Added]) {
+    for at in 0..adds.len().max(want.len()) {
+        let added = added_at(adds, at);
+        assert_part(rt, scene.name, worker, at, added, added_at(want, at));
+    }
+    if !scene.notes {
+        assert_part(rt, scene.name, worker, 0, adds.capacity(), 0);
+    }
+}
+
+// Asserts what a worker has done: part `worker` of the scene in what a failure tells.
+fn assert_done(rt: &impl Abort, scene: &Scene, worker: usize, log: &WorkerLog, done: &Done) {
+    assert_run(rt, scene.name, worker, log, done);
+    assert_added(rt, scene, worker, &log.adds, done.adds);
+    for (user, page) in done.last {
+        let last = last_of(&log.last, *user);
+        assert_part(rt, scene.name, worker, *user as usize, last, Some(*page));
+    }
+}
+
+// Asserts what the first workers have done.
+fn assert_all_done(rt: &impl Abort, scene: &Scene, logs: &[WorkerLog]) {
+    for worker in 0..scene.done.len() {
+        match logs.get(worker) {
+            Some(log) => assert_done(rt, scene, worker, log, &scene.done[worker]),
+            None => assert_same(rt, scene.name, logs.len(), scene.done.len()),
         }
     }
-    true
 }
 
-// Whether the additions are these. Where they are not noted, there was no room for any.
-fn are_additions(adds: &Vec<Added>, want: &[Added], notes: bool) -> bool {
-    adds.as_slice() == want && (notes || adds.capacity() == 0)
-}
-
-// Whether these requests were taken and run.
-fn has_run(log: &WorkerLog, taken: &[Took], ran: &[Ran]) -> bool {
-    log.taken.as_slice() == taken && log.ran.as_slice() == ran
-}
-
-// Whether a worker has done this.
-fn is_done(log: &WorkerLog, done: &Done, notes: bool) -> bool {
-    has_run(log, done.taken, done.ran)
-        && are_additions(&log.adds, done.adds, notes)
-        && has_last(&log.last, done.last)
-}
-
-// Whether the first workers have done this.
-fn are_done(logs: &[WorkerLog], done: &[Done], notes: bool) -> bool {
-    for (log, done) in logs.iter().zip(done) {
-        if !is_done(log, done, notes) {
-            return false;
-        }
+// Asserts what the coordinator chose.
+fn assert_chosen(rt: &impl Abort, case: &str, chosen: &[Chosen], want: &[Chosen]) {
+    for at in 0..chosen.len().max(want.len()) {
+        let choice = chosen_at(chosen, at);
+        assert_step(rt, case, at, choice, chosen_at(want, at));
     }
-    done.len() <= logs.len()
 }
 
 // Makes the steps of all parts.
@@ -79,10 +133,10 @@ fn make_parts<P: Post + Drop>(
     rt: &impl Abort,
     gate: &Expecting,
     play: &mut Play<'_, P>,
-    parts: &[&[Step]],
+    scene: &Scene,
 ) {
-    for part in 0..parts.len() {
-        play.make(rt, gate, part, parts[part]);
+    for part in 0..scene.parts.len() {
+        play.make(rt, gate, scene.name, part, scene.parts[part]);
     }
 }
 
@@ -90,11 +144,12 @@ fn make_parts<P: Post + Drop>(
 // the calls of the gate.
 fn make_all<P: Post + Drop>(rt: &impl Abort, alloc: Global, scene: &Scene, mut play: Play<'_, P>) {
     let gate = Expecting::new(scene.calls);
-    make_parts(rt, &gate, &mut play, scene.parts);
+    make_parts(rt, &gate, &mut play, scene);
     let (phase, chosen, logs) = play.finish(rt, alloc, &gate);
-    let is_end = phase == scene.phase && chosen.as_slice() == scene.chosen && gate.is_content();
-    assert_named(rt, is_end, scene.name);
-    assert_named(rt, are_done(&logs, scene.done, scene.notes), scene.name);
+    assert_same(rt, scene.name, phase, scene.phase);
+    assert_chosen(rt, scene.name, &chosen, scene.chosen);
+    assert_same(rt, scene.name, gate.counts(), (scene.calls.len(), 0));
+    assert_all_done(rt, scene, &logs);
     drop(logs);
 }
 
@@ -108,45 +163,49 @@ fn make_often<P: Post + Drop>(
 ) {
     let gate = Expecting::new(scene.calls);
     for _ in 0..1_030 {
-        make_parts(rt, &gate, &mut play, scene.parts);
+        make_parts(rt, &gate, &mut play, scene);
     }
-    play.make(rt, &gate, scene.parts.len(), rounds());
+    play.make(rt, &gate, scene.name, scene.parts.len(), rounds());
     let (phase, chosen, logs) = play.finish(rt, alloc, &gate);
-    assert_named(
-        rt,
-        phase == 2_062 && is_hot_in_odd_phases(&chosen),
-        scene.name,
-    );
-    assert_named(
-        rt,
-        logs.len() == 1 && ran_by_phase(&logs[0].ran),
-        scene.name,
-    );
+    assert_same(rt, scene.name, phase, 2_062);
+    assert_hot_in_odd_phases(rt, scene.name, &chosen);
+    assert_same(rt, scene.name, logs.len(), 1);
+    for log in &logs {
+        assert_ran_by_phase(rt, scene.name, &log.ran);
+    }
     drop(logs);
 }
 
-// Whether 2,060 requests ran: number n in phase n.
-fn ran_by_phase(ran: &[Ran]) -> bool {
+// Asserts that 2,060 requests ran: number n in phase n.
+fn assert_ran_by_phase(rt: &impl Abort, case: &str, ran: &[Ran]) {
+    assert_same(rt, case, ran.len(), 2_060);
     let mut phase = 0_u32;
     for entry in ran {
         phase = phase.saturating_add(1);
-        if entry.phase != phase || entry.number != phase {
-            return false;
-        }
+        assert_step(
+            rt,
+            case,
+            phase as usize,
+            (entry.phase, entry.number),
+            (phase, phase),
+        );
     }
-    phase == 2_060
 }
 
-// Whether page 0 alone was chosen for each of the 1,024 odd phases from 3 on.
-fn is_hot_in_odd_phases(chosen: &[Chosen]) -> bool {
+// Asserts that page 0 alone was chosen for each of the 1,024 odd phases from 3 on.
+fn assert_hot_in_odd_phases(rt: &impl Abort, case: &str, chosen: &[Chosen]) {
+    assert_same(rt, case, chosen.len(), 1_024);
     let mut phase = 1_u32;
     for choice in chosen {
         phase = phase.saturating_add(2);
-        if choice.phase != phase || choice.mask != 1 {
-            return false;
-        }
+        assert_step(
+            rt,
+            case,
+            phase as usize,
+            (choice.phase, choice.mask),
+            (phase, 1),
+        );
     }
-    phase == 2_049
 }
 
 // How many requests each submitter has.

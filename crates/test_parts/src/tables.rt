@@ -4,7 +4,7 @@ ghost use Rattle.like_tables.specs.SplitSlice.{no_slice};
 
 mod calls;
 
-use crate::asserts::{assert_call, assert_call_at, assert_named};
+use crate::asserts::{assert_named, assert_part, assert_same, assert_step};
 use calls::{
     OnSlice, OnSplits, OnStash, OnUsers, held_of, of_a_million, of_five, slices, splits, stashes,
 };
@@ -14,23 +14,28 @@ use std::alloc::{AllocError, Global};
 use std::process::Abort;
 use std::test::Fail;
 
-// Makes a call of a table of split pages, and tells whether it may be made and is answered as it says.
-fn answers_splits(splits: &mut SplitPages, call: OnSplits) -> bool {
+// Makes a call of a table of split pages, and gives it with the answer that came. None if it may not be made.
+fn made_of_splits(splits: &mut SplitPages, call: OnSplits) -> Option<OnSplits> {
     match call {
         OnSplits::Put(page) => {
             if splits.page_in(splits.bucket(page)).is_some() {
-                return false;
+                return None;
             }
             splits.put(page);
-            true
+            Some(call)
         }
-        OnSplits::Has(page, want) => splits.has(page) == want,
-        OnSplits::Bucket(page, want) => splits.bucket(page) == want,
-        OnSplits::PageIn(place, want) => place < 1_024 && splits.page_in(place) == want,
-        OnSplits::Next(from, want) => splits.next(from) == want,
+        OnSplits::Has(page, _) => Some(OnSplits::Has(page, splits.has(page))),
+        OnSplits::Bucket(page, _) => Some(OnSplits::Bucket(page, splits.bucket(page))),
+        OnSplits::PageIn(place, _) => {
+            if place >= 1_024 {
+                return None;
+            }
+            Some(OnSplits::PageIn(place, splits.page_in(place)))
+        }
+        OnSplits::Next(from, _) => Some(OnSplits::Next(from, splits.next(from))),
         OnSplits::Clear => {
             splits.clear();
-            true
+            Some(call)
         }
     }
 }
@@ -46,11 +51,15 @@ fn call_splits(
 {
     let mut splits = SplitPages::new(alloc, factor)?;
     for at in 0..calls.len() {
-        assert_call_at(
+        let call = calls[at];
+        let made = made_of_splits(&mut splits, call);
+        assert_part(
             rt,
-            answers_splits(&mut splits, calls[at]),
+            "split pages by a factor",
             factor as usize,
             at,
+            made,
+            Some(call),
         );
     }
     Ok(())
@@ -68,37 +77,32 @@ fn a_page_is_split_that_was_put(rt: HostRuntime) -> Result<(), Fail> {
 // The pages 0 and 610 share a bucket by the first factor.
 #[test]
 fn a_factor_parts_pages(rt: HostRuntime) {
-    assert_named(
-        &rt,
-        factor_for(&[0, 1, 2]) == Some(2_654_435_769),
-        "the first factor",
-    );
-    assert_named(
-        &rt,
-        factor_for(&[0, 610]) == Some(2_656_076_303),
-        "a later factor",
-    );
-    assert_named(&rt, factor_for(&[7, 7]) == None, "no factor");
+    let first = factor_for(&[0, 1, 2]);
+    assert_same(&rt, "the first factor", first, Some(2_654_435_769));
+    let later = factor_for(&[0, 610]);
+    assert_same(&rt, "a later factor", later, Some(2_656_076_303));
+    assert_same(&rt, "no factor", factor_for(&[7, 7]), None);
 }
 
-// Makes a call of a slice of this many pages, and tells whether it may be made and is answered as it says.
-fn answers_slice(slice: &mut Slice, pages: u32, call: OnSlice) -> bool
+// Makes a call of a slice of this many pages, and gives it with the answer that came. None if it may not be made.
+fn made_of_slice(slice: &mut Slice, pages: u32, call: OnSlice) -> Option<OnSlice>
     requires { length slice.old ≡ pages }
     ensures { length slice.new ≡ pages }
 {
     match call {
         OnSlice::Add(page) => {
             if page >= pages || slice.total() >= 64 {
-                return false;
+                return None;
             }
             slice.add(page);
-            true
+            Some(call)
         }
-        OnSlice::Likes(page, want) => page < pages && slice.likes(page) == want,
-        OnSlice::Take(page, want) => page < pages && slice.take(page) == want,
-        OnSlice::Next(from, want) => from <= pages && slice.next(from) == want,
-        OnSlice::Total(want) => slice.total() == want,
-        OnSlice::IsEmpty(want) => slice.is_empty() == want,
+        OnSlice::Likes(page, _) if page < pages => Some(OnSlice::Likes(page, slice.likes(page))),
+        OnSlice::Take(page, _) if page < pages => Some(OnSlice::Take(page, slice.take(page))),
+        OnSlice::Next(from, _) if from <= pages => Some(OnSlice::Next(from, slice.next(from))),
+        OnSlice::Total(_) => Some(OnSlice::Total(slice.total())),
+        OnSlice::IsEmpty(_) => Some(OnSlice::IsEmpty(slice.is_empty())),
+        _ => None,
     }
 }
 
@@ -107,8 +111,16 @@ fn call_slice(rt: &impl Abort, slice: &mut Slice, pages: u32, calls: &[OnSlice])
     requires { length slice.old ≡ pages }
 {
     for at in 0..calls.len() {
-        let answered = answers_slice(slice, pages, calls[at]);
-        assert_call_at(rt, answered, pages as usize, at);
+        let call = calls[at];
+        let made = made_of_slice(slice, pages, call);
+        assert_part(
+            rt,
+            "a slice by its pages",
+            pages as usize,
+            at,
+            made,
+            Some(call),
+        );
     }
 }
 
@@ -122,30 +134,27 @@ fn a_slice_gives_what_was_added(rt: HostRuntime) -> Result<(), Fail> {
     Ok(())
 }
 
-// Whether two likes of page 64 come out of a slice in which no page is split.
-fn gives_two_likes<C: Counts>(slice: &mut SplitSlice<C>) -> bool
+// Two likes of page 64 come out of a slice in which no page is split.
+fn gives_two_likes<C: Counts>(rt: &impl Abort, case: &str, slice: &mut SplitSlice<C>)
     requires { slice.old ≡ no_slice (2 ^ 22) 1_024 }
 {
     slice.put(64);
     slice.add(64);
     slice.add(64);
-    slice.has(64)
-        && !slice.has(65)
-        && slice.bucket(64) == 64
-        && slice.likes(64) == 2
-        && slice.next(64) == Some(64)
-        && slice.next(65) == None
-        && slice.take(64) == 2
-        && slice.next(0) == None
+    assert_named(rt, slice.has(64), "page 64 is split");
+    assert_same(rt, case, slice.has(65), false);
+    assert_same(rt, case, (slice.bucket(64), slice.likes(64)), (64, 2));
+    assert_same(rt, case, (slice.next(64), slice.next(65)), (Some(64), None));
+    assert_same(rt, case, (slice.take(64), slice.next(0)), (2, None));
 }
 
 #[test]
 fn a_slice_of_split_pages_gives_what_was_added(rt: HostRuntime) -> Result<(), Fail> {
     let mut slice = SplitSlice::of_run(rt.alloc(), 1_024)?;
-    assert_named(&rt, gives_two_likes(&mut slice), "a run's");
+    gives_two_likes(&rt, "a run's", &mut slice);
     drop(slice);
     let mut slice = SplitSlice::of_service(rt.alloc(), 1 << 22)?;
-    assert_named(&rt, gives_two_likes(&mut slice), "a service's");
+    gives_two_likes(&rt, "a service's", &mut slice);
     drop(slice);
     Ok(())
 }
@@ -161,27 +170,40 @@ fn fills(stash: &mut Stash<Held>, looks: u32) -> bool {
     true
 }
 
-// Makes a call of a stash, and tells whether it may be made and is answered as it says.
-fn answers_stash(stash: &mut Stash<Held>, call: OnStash) -> bool {
+// Makes a call of a stash, and gives it with the answer that came. None if it may not be made, or if what comes out was
+// not pushed so.
+fn made_of_stash(stash: &mut Stash<Held>, call: OnStash) -> Option<OnStash> {
     match call {
         OnStash::Push(submitter) => {
             if stash.is_full() {
-                return false;
+                return None;
             }
             stash.push(held_of(submitter));
-            true
+            Some(call)
         }
-        OnStash::Fill(looks) => fills(stash, looks),
-        OnStash::Pop(want) => stash.pop_front() == want,
-        OnStash::IsFull(want) => stash.is_full() == want,
-        OnStash::Len(want) => stash.len() == want,
+        OnStash::Fill(looks) => {
+            if fills(stash, looks) {
+                Some(call)
+            } else {
+                None
+            }
+        }
+        OnStash::Pop(_) => match stash.pop_front() {
+            Some(held) if held != held_of(held.submitter) => None,
+            Some(held) => Some(OnStash::Pop(Some(held.submitter))),
+            None => Some(OnStash::Pop(None)),
+        },
+        OnStash::IsFull(_) => Some(OnStash::IsFull(stash.is_full())),
+        OnStash::Len(_) => Some(OnStash::Len(stash.len())),
     }
 }
 
 // Makes the calls of a stash with room for this many looks, and asserts their answers.
 fn call_stash(rt: &impl Abort, stash: &mut Stash<Held>, capacity: usize, calls: &[OnStash]) {
     for at in 0..calls.len() {
-        assert_call_at(rt, answers_stash(stash, calls[at]), capacity, at);
+        let call = calls[at];
+        let made = made_of_stash(stash, call);
+        assert_part(rt, "a stash by its room", capacity, at, made, Some(call));
     }
 }
 
@@ -196,19 +218,24 @@ fn a_stash_gives_what_was_pushed(rt: HostRuntime) -> Result<(), Fail> {
     Ok(())
 }
 
-// Makes a call of a table of users, and tells whether it may be made and is answered as it says.
-fn answers_users(users: &mut Users, call: OnUsers) -> bool
+// Makes a call of a table of users, and gives it with the answer that came. None if it may not be made.
+fn made_of_users(users: &mut Users, call: OnUsers) -> Option<OnUsers>
     ensures { users.new.share ≡ users.old.share }
 {
     match call {
-        OnUsers::Owns(user, want) => users.owns(user) == want,
-        OnUsers::Last(user, want) => users.owns(user) && users.last(user) == want,
+        OnUsers::Owns(user, _) => Some(OnUsers::Owns(user, users.owns(user))),
+        OnUsers::Last(user, _) => {
+            if !users.owns(user) {
+                return None;
+            }
+            Some(OnUsers::Last(user, users.last(user)))
+        }
         OnUsers::Set(user, page) => {
             if !users.owns(user) || page >= 1_024 {
-                return false;
+                return None;
             }
             users.set(user, page);
-            true
+            Some(call)
         }
     }
 }
@@ -218,61 +245,65 @@ fn call_users(rt: &impl Abort, users: &mut Users, calls: &[OnUsers])
     ensures { users.new.share ≡ users.old.share }
 {
     for at in 0..calls.len() {
-        assert_call(rt, answers_users(users, calls[at]), "users", at);
+        let call = calls[at];
+        let made = made_of_users(users, call);
+        assert_step(rt, "users", at, made, Some(call));
     }
 }
 
-// Whether the last likes of five users, of whom 1 and 3 are the worker's, are given so.
-fn gives_last_likes(users: &Users) -> bool
+// The last likes of five users, of whom 1 and 3 are the worker's.
+fn last_likes(users: &Users) -> [Option<u32>; 5]
     requires { users.now.share.users ≡ 5 }
 {
     let mut last = [Some(9); 5];
     users.give_to(&mut last);
-    last == [Some(9), None, Some(9), Some(7), Some(9)]
+    last
 }
 
-// Whether a request of user 3 for a page that is unknown is judged so.
-fn judges_unknown_page(users: &Users) -> bool {
+// A table of five users is worker 1's, of two workers. It judges a request of user 3 for a page that is unknown.
+fn is_worker_one(rt: &impl Abort, users: &Users)
+    requires { users.now.share.users ≡ 5 }
+{
+    assert_same(rt, "the worker", users.worker(), 1);
+    let last = [Some(9), None, Some(9), Some(7), Some(9)];
+    assert_same(rt, "last likes", last_likes(users), last);
     let home = Request {
         op: Op::Like,
         user: 3,
         page: PageRef::Unknown,
     };
-    users.judge(1, &home) == Verdict::UnknownPage
-}
-
-// Whether a table of five users is worker 1's, of two workers.
-fn is_worker_one(users: &Users) -> bool
-    requires { users.now.share.users ≡ 5 }
-{
-    users.worker() == 1 && gives_last_likes(users) && judges_unknown_page(users)
+    let verdict = users.judge(1, &home);
+    assert_same(rt, "an unknown page", verdict, Verdict::UnknownPage);
 }
 
 #[test]
 fn users_are_those_of_the_worker(rt: HostRuntime) -> Result<(), Fail> {
     let mut users = Users::new(rt.alloc(), 5, 2, 2, 1)?;
     call_users(&rt, &mut users, of_five());
-    assert_named(&rt, is_worker_one(&users), "the users of worker 1");
-    assert_named(&rt, users.submitter_at(0) == 1, "its submitter");
+    is_worker_one(&rt, &users);
+    assert_same(&rt, "its submitter", users.submitter_at(0), 1);
     drop(users);
     Ok(())
 }
 
-// Whether user 16 is the third of seat 4 of six, and the users 15 and 28 are not found.
-fn finds_one_of_three(users: &Users) -> bool
+// The user and the rank that a seat finds, if it does.
+fn found(users: &Users, user: u32) -> Option<(u32, u32)>
     requires { users.now.share ≡ share_of 23 6 6 4 }
 {
     let home = users.home();
-    matches!(users.find(&home, 16), Some(ranked) if ranked.user == 16 && ranked.rank == 2)
-        && users.find(&home, 15).is_none()
-        && users.find(&home, 28).is_none()
+    let Some(ranked) = users.find(&home, user) else {
+        return None;
+    };
+    Some((ranked.user, ranked.rank))
 }
 
 // Of 23 users at six seats, those of seat 4 are 4, 10, 16 and 22.
 #[test]
 fn a_user_is_found_at_its_home(rt: HostRuntime) -> Result<(), Fail> {
     let users = Users::new(rt.alloc(), 23, 6, 6, 4)?;
-    assert_named(&rt, finds_one_of_three(&users), "three users");
+    assert_same(&rt, "user 16", found(&users, 16), Some((16, 2)));
+    assert_same(&rt, "user 15", found(&users, 15), None);
+    assert_same(&rt, "user 28", found(&users, 28), None);
     drop(users);
     Ok(())
 }

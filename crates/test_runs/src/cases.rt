@@ -102,32 +102,6 @@ pub fn replayed(
     replayed
 }
 
-fn are_counts(report: &Report, counts: &[u64]) -> bool {
-    report.counts.as_slice() == counts
-}
-
-/// Asserts the counts of a report, and drops it: a caller that dropped it would prove once more how each of its parts is
-/// dropped.
-pub fn assert_counts(rt: &impl Abort, report: Report, counts: &[u64]) {
-    let are_right = are_counts(&report, counts);
-    drop(report);
-    assert_that(rt, are_right, "other counts");
-}
-
-/// Stops the test and tells what is wrong, unless this holds.
-pub fn assert_that(rt: &impl Abort, holds: bool, wrong: &str) {
-    if !holds {
-        rt.panic(wrong);
-    }
-}
-
-/// Asserts that a text is this.
-pub fn assert_text(rt: &impl Abort, text: &str, wanted: &str) {
-    if text != wanted {
-        rt.panic(text);
-    }
-}
-
 // A file of this header and these rows.
 fn file_of(rt: &impl Abort, alloc: Global, header: &str, rows: &str) -> String {
     format!(in alloc; "{header}\n{rows}").expect(rt, "memory")

@@ -1,12 +1,14 @@
 //! Drawn replays, compared with runs that are played by the tables of turns.
 ghost use Rattle.std.specs.Prelude.{◌+◌, ◌<◌, ◌≤◌, ◌^◌};
 
-use super::cases::{assert_that, pages_of, replayed};
-use super::lists::{Alike, are_alike, push};
+use super::asserts::{assert_step, assert_that};
+use super::cases::{pages_of, replayed};
+use super::lists::push;
+use super::logs::{entry_of, numbers_of};
 use super::players::{Played, Player, play};
 use like_replies::Report;
 use like_requests::{Op, PageRef, Pages, Request, Setup};
-use like_roles::WorkerLog;
+use like_roles::{Ran, Took, WorkerLog};
 use like_run::Turned;
 use std::alloc::Global;
 use std::process::Abort;
@@ -154,57 +156,75 @@ fn draw_script(
     script
 }
 
-// A worker's log is like a player that took and ran the same.
-impl Alike<Player> for WorkerLog {
-    fn is_like(&self, player: &Player) -> bool {
-        self.taken == player.taken && self.ran == player.ran
+// Asserts that a worker took what its player did.
+fn assert_taken(rt: &impl Abort, case: usize, taken: &[Took], played: &[Took]) {
+    assert_step(rt, "requests taken", case, taken.len(), played.len());
+    for (took, wanted) in taken.iter().zip(played) {
+        assert_step(rt, "taken", case, numbers_of(took), numbers_of(wanted));
     }
 }
 
-fn is_as_played(report: &Report, played: &Played) -> bool {
-    Some(report.phases) == played.phases
-        && report.hot == played.chosen
-        && are_alike(&report.logs, &played.players)
+// Asserts that a worker ran what its player did.
+fn assert_ran(rt: &impl Abort, case: usize, ran: &[Ran], played: &[Ran]) {
+    assert_step(rt, "requests run", case, ran.len(), played.len());
+    for (entry, wanted) in ran.iter().zip(played) {
+        let came = (entry_of(entry), entry.reply);
+        assert_step(rt, "run", case, came, (entry_of(wanted), wanted.reply));
+    }
 }
 
-// Whether a run of these plans is replayed as it is played.
-fn is_replayed_as_played(
+// Asserts that workers took and ran what their players did.
+fn assert_logs(rt: &impl Abort, case: usize, logs: &[WorkerLog], players: &[Player]) {
+    assert_step(rt, "workers", case, logs.len(), players.len());
+    for (log, player) in logs.iter().zip(players) {
+        assert_taken(rt, case, &log.taken, &player.taken);
+        assert_ran(rt, case, &log.ran, &player.ran);
+    }
+}
+
+// Asserts that a report is as its run is played, in a case with this number.
+fn assert_as_played(rt: &impl Abort, case: usize, report: &Report, played: &Played) {
+    assert_step(rt, "phases", case, Some(report.phases), played.phases);
+    let are_chosen = report.hot == played.chosen;
+    assert_step(rt, "the same choices", case, are_chosen, true);
+    assert_logs(rt, case, &report.logs, &played.players);
+}
+
+// Asserts that a run of these plans is replayed as it is played.
+fn assert_replayed(
     rt: &impl Abort,
     alloc: Global,
+    case: usize,
     setup: Setup,
     split: [bool; 4],
     plans: Vec<Vec<Request>>,
     script: Vec<Turned>,
-) -> bool
+)
     requires some { 1 ≤ setup.workers }
     requires few { setup.workers ≤ 16 }
 {
     let played = play(rt, alloc, &setup, split, &plans, &script);
     assert_that(rt, played.is_whole(), "memory, or an event of the play");
     let report = replayed(rt, alloc, setup, plans, script).expect(rt, "a report");
-    let is_as_played = is_as_played(&report, &played);
+    assert_as_played(rt, case, &report, &played);
     drop(report);
     drop(played);
-    is_as_played
 }
 
-// Whether a run that is drawn next is replayed as it is played.
-fn is_next_as_played(rt: &impl Abort, alloc: Global, draws: &mut Draws) -> bool {
+// Asserts that the run that is drawn next, in a case with this number, is replayed as it is played.
+fn assert_next(rt: &impl Abort, alloc: Global, case: usize, draws: &mut Draws) {
     let split = draw_marks(draws);
     let setup = draw_setup(draws, marked_pages(rt, alloc, &split));
     let submitters = 1 + draws.below(7);
     let plans = draw_plans(rt, alloc, draws, submitters);
     let script = draw_script(rt, alloc, draws, setup.workers, submitters);
-    is_replayed_as_played(rt, alloc, setup, split, plans, script)
+    assert_replayed(rt, alloc, case, setup, split, plans, script);
 }
 
 #[test]
 fn replays_by_the_tables(rt: HostRuntime) {
     let mut draws = Draws { state: 1 };
     for case in 0..1_000 {
-        assert!(rt;
-            is_next_as_played(&rt, rt.alloc(), &mut draws),
-            "in case {case}"
-        );
+        assert_next(&rt, rt.alloc(), case, &mut draws);
     }
 }

@@ -1,9 +1,10 @@
 //! Example mixed-load: likes and looks of a page that is split and of one that isn't, on threads. Run order, and the bounds
 //! of each count, are computed here from what the workers took and from which likes they ran.
-use super::cases::{Case, SMALL, assert_counts, assert_that};
+use super::asserts::{assert_counts, assert_same, assert_that};
+use super::cases::{Case, SMALL};
 use super::gates::Watch;
-use super::lists::{are_alike, push};
-use super::logs::Entry;
+use super::lists::push;
+use super::logs::{Entry, assert_ran};
 use like_replies::Report;
 use like_requests::{Op, PageRef, Request};
 use like_roles::{Ran, Reply, Took, WorkerLog};
@@ -191,17 +192,12 @@ fn has_right_counts(
     bounds.hold_for(ran, &mut Likes::none(rt, alloc, phases))
 }
 
-fn has_run_order(rt: &impl Abort, alloc: Global, log: &WorkerLog) -> bool {
-    are_alike(&log.ran, &order(rt, alloc, &log.taken))
-}
-
 // Asserts that each worker ran in run order, and that its looks were shown right counts.
 fn assert_logs(rt: &impl Abort, alloc: Global, logs: &[WorkerLog], phases: u32) {
     let all = likes_of(rt, alloc, logs, phases);
     let up_to = all.up_to(rt, alloc);
     for log in logs {
-        let is_in_order = has_run_order(rt, alloc, log);
-        assert_that(rt, is_in_order, "another order");
+        assert_ran(rt, "run order", &log.ran, &order(rt, alloc, &log.taken));
         let are_right = has_right_counts(rt, alloc, &log.ran, &all, &up_to, phases);
         assert_that(rt, are_right, "a count out of its bounds");
     }
@@ -209,9 +205,8 @@ fn assert_logs(rt: &impl Abort, alloc: Global, logs: &[WorkerLog], phases: u32) 
 
 fn assert_right(rt: &impl Abort, alloc: Global, report: &Report, gate: &Watch) {
     let phases = gate.phases();
-    assert_that(rt, gate.has_calls(16_000), "other calls");
-    let are_all = phases == report.phases.saturating_add(1);
-    assert_that(rt, are_all, "other phases");
+    assert_same(rt, "calls", gate.calls(), (16_000, 16_000));
+    assert_same(rt, "phases", phases, report.phases.saturating_add(1));
     assert_logs(rt, alloc, &report.logs, phases);
 }
 
@@ -220,7 +215,7 @@ fn assert_run(rt: &(impl Abort + Threads + Wait + Sync), alloc: Global) {
     let report = mixed_load().report(rt, alloc, plans(rt, alloc), &gate);
     assert_right(rt, alloc, &report, &gate);
     drop(gate);
-    assert_counts(rt, report, &[4_000, 4_000]);
+    assert_counts(rt, "counts", report, &[4_000, 4_000]);
 }
 
 #[test]

@@ -1,5 +1,6 @@
 //! The places of the additions in runs.
-use super::cases::{assert_counts, assert_that, plain_likes};
+use super::asserts::{assert_counts, assert_same, assert_step};
+use super::cases::plain_likes;
 use super::gates::Watch;
 use like_replies::{Place, Report};
 use like_run::{replay_noting, run_noting};
@@ -10,36 +11,35 @@ use std::thread::Threads;
 
 /// The additions to the one page of a report.
 pub fn places_of<'a>(rt: &impl Abort, report: &'a Report) -> &'a [Place] {
-    assert_that(rt, report.places.len() == 1, "not one page");
+    assert_same(rt, "pages", report.places.len(), 1);
     report.places.first().expect(rt, "a page")
 }
 
-/// Whether worker 0 made three additions of one like each, from a count of 10 on.
-pub fn are_placed_singly(places: &[Place]) -> bool {
+/// Asserts that worker 0 made three additions of one like each, from a count of 10 on.
+pub fn assert_placed_singly(rt: &impl Abort, places: &[Place]) {
+    assert_same(rt, "places", places.len(), 3);
     let mut old = 10_u64;
-    for place in places {
-        if place.worker != 0 || place.old != old || place.n != 1 {
-            return false;
-        }
+    for (step, place) in places.iter().enumerate() {
+        let came = (place.worker, place.old, place.n);
+        assert_step(rt, "places", step, came, (0, old, 1));
         old = old.saturating_add(1);
     }
-    old == 13
 }
 
-// Whether a report has no places, and its logs no additions.
-fn has_none(report: &Report) -> bool {
+// How many additions the logs of a report have.
+fn additions(report: &Report) -> usize {
+    let mut many = 0_usize;
     for log in report.logs.iter() {
-        if !log.adds.is_empty() {
-            return false;
-        }
+        many = many.saturating_add(log.adds.len());
     }
-    report.places.is_empty()
+    many
 }
 
-// Asserts that a report of plain likes has their count, and no places.
+// Asserts that a report of plain likes has their count, and no places and additions.
 fn assert_none(rt: &impl Abort, report: Report) {
-    assert_that(rt, has_none(&report), "a place or an addition");
-    assert_counts(rt, report, &[13]);
+    let came = (report.places.len(), additions(&report));
+    assert_same(rt, "places and additions", came, (0, 0));
+    assert_counts(rt, "the count", report, &[13]);
 }
 
 // The report of a replay that notes no additions.

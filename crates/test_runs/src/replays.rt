@@ -1,11 +1,11 @@
 //! Replays of scripts: what the workers took and ran, the places of their additions, refused scripts, and how long a
 //! replay may last.
+use super::asserts::{assert_counts, assert_same, assert_step};
 use super::cases::{
     Case, FULL_STASH, IDLE_WORKERS, LATE_WORKER, PLAIN_LIKES, SMALL, SPLIT_AND_STASH,
-    STASH_THEN_LIKE, TWO_SLICES, UNSPLIT, assert_counts, assert_that, likes,
+    STASH_THEN_LIKE, TWO_SLICES, UNSPLIT, likes,
 };
-use super::lists::{Alike, are_alike};
-use super::logs::{Log, NO_LOG};
+use super::logs::{Log, NO_LOG, assert_logs};
 use like_replies::{Place, Report};
 use like_requests::SettingsFault;
 use like_roles::{Chosen, Ran};
@@ -302,25 +302,36 @@ fn of_several_workers() -> &'static [Example] {
     OF_SEVERAL
 }
 
-impl Alike<&[Place]> for Vec<Place> {
-    fn is_like(&self, wanted: &&[Place]) -> bool {
-        self.as_slice() == *wanted
+// Asserts the places of the additions to each page.
+fn assert_places(rt: &impl Abort, case: &str, rows: &[Vec<Place>], wanted: &[&[Place]]) {
+    assert_same(rt, case, rows.len(), wanted.len());
+    for (page, (row, wanted)) in rows.iter().zip(wanted).enumerate() {
+        assert_step(rt, case, page, row.as_slice(), *wanted);
     }
 }
 
-// Whether a report has what its example says.
-fn is_shown(report: &Report, example: &Example) -> bool {
-    are_alike(&report.logs, example.logs)
-        && are_alike(&report.places, example.places)
-        && report.hot.as_slice() == example.hot
-        && report.phases == example.phases
+// Asserts the choices of hot pages.
+fn assert_hot(rt: &impl Abort, case: &str, hot: &[Chosen], wanted: &[Chosen]) {
+    assert_same(rt, case, hot.len(), wanted.len());
+    for (step, (chosen, wanted)) in hot.iter().zip(wanted).enumerate() {
+        let came = (chosen.phase, chosen.mask);
+        assert_step(rt, case, step, came, (wanted.phase, wanted.mask));
+    }
+}
+
+// Asserts that a report has what its example says.
+fn assert_shown(rt: &impl Abort, report: &Report, example: &Example) {
+    assert_logs(rt, example.name, &report.logs, example.logs);
+    assert_places(rt, example.name, &report.places, example.places);
+    assert_hot(rt, example.name, &report.hot, example.hot);
+    assert_same(rt, example.name, report.phases, example.phases);
 }
 
 fn assert_examples(rt: &impl Abort, alloc: Global, examples: &[Example]) {
     for example in examples {
         let report = example.case.replay(rt, alloc).expect(rt, "a report");
-        assert_that(rt, is_shown(&report, example), example.name);
-        assert_counts(rt, report, example.counts);
+        assert_shown(rt, &report, example);
+        assert_counts(rt, example.name, report, example.counts);
     }
 }
 
@@ -352,38 +363,36 @@ fn fault_of(replayed: Result<Report, ReplayFault>) -> Option<ReplayFault> {
 fn names_an_entry_that_is_away(rt: HostRuntime) {
     let fault = fault_of(away().replay(&rt, rt.alloc()));
     let wanted = Some(ReplayFault::Settings(SettingsFault::Script { at: 1 }));
-    assert_that(&rt, fault == wanted, "out of memory, or another answer");
+    assert_same(&rt, "the second entry is away", fault, wanted);
 }
 
-// Whether 2,060 entries ran: entry n in phase n with number n, from 1 on.
-fn ran_by_phase(ran: &[Ran]) -> bool {
+// Asserts that 2,060 entries ran: entry n in phase n with number n, from 1 on.
+fn assert_ran_by_phase(rt: &impl Abort, ran: &[Ran]) {
+    assert_same(rt, "entries", ran.len(), 2_060);
     let mut phase = 0_u32;
     for entry in ran {
         phase = phase.saturating_add(1);
-        if entry.phase != phase || entry.number != phase {
-            return false;
-        }
+        let came = (entry.phase, entry.number);
+        assert_step(rt, "entries", phase as usize, came, (phase, phase));
     }
-    phase == 2_060
 }
 
-// Whether page 0 alone was chosen for each of the 1,024 odd phases from 3 to 2,049.
-fn is_hot_in_odd_phases(hot: &[Chosen]) -> bool {
+// Asserts that page 0 alone was chosen for each of the 1,024 odd phases from 3 to 2,049.
+fn assert_hot_in_odd_phases(rt: &impl Abort, hot: &[Chosen]) {
+    assert_same(rt, "choices", hot.len(), 1_024);
     let mut phase = 1_u32;
     for chosen in hot {
         phase = phase.saturating_add(2);
-        if chosen.phase != phase || chosen.mask != 1 {
-            return false;
-        }
+        let came = (chosen.phase, chosen.mask);
+        assert_step(rt, "choices", phase as usize, came, (phase, 1));
     }
-    phase == 2_049
 }
 
 // Asserts that like n of 2,060 ran in phase n, and that page 0 alone was hot in 1,024 odd phases, from 3 on.
 fn assert_hot_in_1024_phases(rt: &impl Abort, report: &Report) {
     let log = report.logs.first().expect(rt, "a log");
-    assert_that(rt, ran_by_phase(&log.ran), "other phases");
-    assert_that(rt, is_hot_in_odd_phases(&report.hot), "other choices");
+    assert_ran_by_phase(rt, &log.ran);
+    assert_hot_in_odd_phases(rt, &report.hot);
 }
 
 // Example `hot-limit`.
@@ -403,7 +412,7 @@ fn chooses_in_1024_phases_at_most(rt: HostRuntime) {
     let replayed = hot_limit().replay_plans(&rt, rt.alloc(), plans);
     let report = replayed.expect(&rt, "a report");
     assert_hot_in_1024_phases(&rt, &report);
-    assert_counts(&rt, report, &[2_060]);
+    assert_counts(&rt, "the count", report, &[2_060]);
 }
 
 // Example `bounds`.
@@ -426,14 +435,11 @@ fn replay_likes(rt: &impl Abort, alloc: Global, number: usize) -> Result<Report,
 fn a_replay_has_a_million_rounds(rt: HostRuntime) {
     for number in &[1_000_000, 999_998] {
         let fault = fault_of(replay_likes(&rt, rt.alloc(), *number));
-        assert_that(
-            &rt,
-            fault == Some(ReplayFault::Unfinished),
-            "out of memory, or another answer",
-        );
+        let wanted = Some(ReplayFault::Unfinished);
+        assert_step(&rt, "likes", *number, fault, wanted);
     }
     let report = replay_likes(&rt, rt.alloc(), 999_997).expect(&rt, "a report");
-    assert_that(&rt, report.phases == 0, "not in phase 0");
-    assert_that(&rt, report.hot.is_empty(), "a choice");
-    assert_counts(&rt, report, &[999_997]);
+    assert_same(&rt, "the last phase", report.phases, 0);
+    assert_same(&rt, "choices", report.hot.len(), 0);
+    assert_counts(&rt, "the count", report, &[999_997]);
 }

@@ -1,7 +1,8 @@
 //! Runs on threads. What is asserted of them is the same on every schedule.
-use super::cases::{assert_counts, assert_that, likes, one_page};
+use super::asserts::{assert_counts, assert_same, assert_step};
+use super::cases::{likes, one_page};
 use super::gates::{Held, Ledger, Watch};
-use super::places::{are_placed_singly, places_of, ran_plain};
+use super::places::{assert_placed_singly, places_of, ran_plain};
 use like_replies::{Answer, Place, Report};
 use like_requests::SettingsFault;
 use like_roles::Reply;
@@ -14,34 +15,28 @@ use std::thread::Threads;
 // How many times a gate looks before it gives up.
 const LOOKS: u32 = 1 << 24;
 
-// Whether a submitter has `each` replies, all of them `Liked`.
-fn is_all_liked(row: &[Answer], each: usize) -> bool {
-    for answer in row {
-        if answer.reply != Reply::Liked {
-            return false;
-        }
+// Asserts that a submitter has `each` replies, all of them `Liked`.
+fn assert_row_liked(rt: &impl Abort, row: &[Answer], each: usize) {
+    assert_same(rt, "replies of a submitter", row.len(), each);
+    for (step, answer) in row.iter().enumerate() {
+        assert_step(rt, "replies", step, answer.reply, Reply::Liked);
     }
-    row.len() == each
 }
 
-// Whether there are `submitters` rows of `each` replies, all of them `Liked`.
-fn are_all_liked(rows: &[Vec<Answer>], submitters: usize, each: usize) -> bool {
+// Asserts that there are `submitters` rows of `each` replies, all of them `Liked`.
+fn assert_rows_liked(rt: &impl Abort, rows: &[Vec<Answer>], submitters: usize, each: usize) {
+    assert_same(rt, "submitters", rows.len(), submitters);
     for row in rows {
-        if !is_all_liked(row, each) {
-            return false;
-        }
+        assert_row_liked(rt, row, each);
     }
-    rows.len() == submitters
 }
 
-// Whether there are `users` users, and each likes page 0.
-fn like_the_page(last: &[Option<u32>], users: usize) -> bool {
-    for page in last {
-        if *page != Some(0) {
-            return false;
-        }
+// Asserts that there are `users` users, and that each likes page 0.
+fn assert_like_the_page(rt: &impl Abort, last: &[Option<u32>], users: usize) {
+    assert_same(rt, "users", last.len(), users);
+    for (user, page) in last.iter().enumerate() {
+        assert_step(rt, "last likes", user, *page, Some(0));
     }
-    last.len() == users
 }
 
 // Asserts that there are `submitters` rows of `each` replies, all of them `Liked`, and that `users` users like the
@@ -54,21 +49,16 @@ fn assert_liked(
     users: usize,
     count: u64,
 ) {
-    let is_liked = is_liked(&report, submitters, each, users);
-    assert_that(rt, is_liked, "other replies or last likes");
-    assert_counts(rt, report, &[count]);
-}
-
-fn is_liked(report: &Report, submitters: usize, each: usize, users: usize) -> bool {
-    are_all_liked(&report.replies.rows, submitters, each) && like_the_page(&report.last, users)
+    assert_rows_liked(rt, &report.replies.rows, submitters, each);
+    assert_like_the_page(rt, &report.last, users);
+    assert_counts(rt, "the count", report, &[count]);
 }
 
 // On threads the likes run in any phase.
 #[test]
 fn runs_plain_likes(rt: HostRuntime) {
     let report = ran_plain(&rt, rt.alloc(), true);
-    let is_placed = are_placed_singly(places_of(&rt, &report));
-    assert_that(&rt, is_placed, "other places");
+    assert_placed_singly(&rt, places_of(&rt, &report));
     assert_liked(&rt, report, 1, 3, 2, 13);
 }
 
@@ -147,9 +137,9 @@ fn assert_all_liked(rt: &impl Abort, report: Report, submitters: u32, each: u32)
 }
 
 fn assert_calls(rt: &impl Abort, gate: &Watch, number: u32) {
-    assert_that(rt, gate.has_calls(number), "other calls");
-    assert_that(rt, gate.made() == gate.awaited(), "other calls are awaited");
-    assert_that(rt, !gate.gave_up(), "a call waited in vain");
+    assert_same(rt, "calls", gate.calls(), (number, number));
+    assert_same(rt, "awaited calls", gate.made(), gate.awaited());
+    assert_same(rt, "a call waited in vain", gate.gave_up(), false);
 }
 
 #[test]
@@ -174,23 +164,26 @@ fn runs_each_number_of_submitters(rt: HostRuntime) {
     }
 }
 
-// Whether the first two additions to a page are one of worker 0, which finds no like, and one of worker 1.
-fn is_second_of_worker_1(places: &[Place]) -> bool {
-    match places {
-        [first, second, ..] => {
-            first.worker == 0 && first.old == 0 && second.worker == 1 && second.old == 1
-        }
-        _ => false,
+// The worker and the count before of an addition at a place in the list of a page.
+fn addition_at(places: &[Place], at: usize) -> Option<(u32, u64)> {
+    match places.get(at) {
+        Some(place) => Some((place.worker, place.old)),
+        None => None,
     }
+}
+
+// Asserts that the first two additions to a page are one of worker 0, which finds no like, and one of worker 1.
+fn assert_second_of_worker_1(rt: &impl Abort, places: &[Place]) {
+    assert_same(rt, "an addition", addition_at(places, 0), Some((0, 0)));
+    assert_same(rt, "the next one", addition_at(places, 1), Some((1, 1)));
 }
 
 // Each submitter has more likes than 16 bits can number, and those of submitter 2 are refused. All of it is in phase 0.
 #[test]
 fn tells_the_gate_of_each_call(rt: HostRuntime) {
     let report = told(&rt, rt.alloc());
-    let is_placed = is_second_of_worker_1(places_of(&rt, &report));
-    assert_that(&rt, is_placed, "other places");
-    assert_counts(&rt, report, &[140_000]);
+    assert_second_of_worker_1(&rt, places_of(&rt, &report));
+    assert_counts(&rt, "the count", report, &[140_000]);
 }
 
 // The report of a run whose gate was told of all calls.
@@ -204,8 +197,8 @@ fn told(rt: &(impl Abort + Threads + Wait + Sync), alloc: Global) -> Report {
 }
 
 fn assert_told(rt: &impl Abort, gate: &Ledger) {
-    assert_that(rt, gate.is_right(), "a call was not the next one");
-    assert_that(rt, gate.has_all(70_000), "other calls");
+    assert_same(rt, "calls that are not the next one", gate.wrong(), 0);
+    assert_same(rt, "calls", gate.calls(), ([70_000; 3], [70_000; 3]));
 }
 
 // What a run of two likes ends in with at most this many threads.
@@ -230,18 +223,16 @@ fn fault_of(ran: Result<Report, RunFault>) -> Option<RunFault> {
 fn assert_not_started(rt: &(impl Abort + Threads + Wait + Sync), alloc: Global, starts: u32) {
     let gate = Watch::idle();
     let fault = fault_of(limited(rt, alloc, &gate, starts));
-    let is_untouched = is_untouched(&gate);
+    let (calls, phases) = (gate.calls(), gate.phases());
     drop(gate);
-    assert_that(
+    assert_step(rt, "threads", starts as usize, fault, Some(RunFault::Start));
+    assert_step(
         rt,
-        fault == Some(RunFault::Start),
-        "out of memory, or another answer",
+        "calls and phases",
+        starts as usize,
+        (calls, phases),
+        ((0, 0), 0),
     );
-    assert_that(rt, is_untouched, "a call");
-}
-
-fn is_untouched(gate: &Watch) -> bool {
-    gate.has_calls(0) && gate.phases() == 0
 }
 
 // Asserts that a run makes its report with at most this many threads, which are enough.
@@ -266,5 +257,5 @@ fn names_the_limit_that_a_run_breaks(rt: HostRuntime) {
     let fault = fault_of(case.run(&rt, rt.alloc(), plans, &gate));
     drop(gate);
     let wanted = Some(RunFault::Settings(SettingsFault::Workers));
-    assert_that(&rt, fault == wanted, "out of memory, or another answer");
+    assert_same(&rt, "a run of 17 workers", fault, wanted);
 }

@@ -1,6 +1,7 @@
 //! That a run keeps to the turns and the stash of its settings. No schedule is sure to show it, so each test makes runs
 //! until one has shown it, and 50 at most.
-use super::cases::{Case, assert_that, likes, one_page, requests};
+use super::asserts::{assert_same, assert_step};
+use super::cases::{Case, likes, one_page, requests};
 use super::gates::{Held, Watch};
 use like_replies::Report;
 use like_requests::Op;
@@ -51,15 +52,15 @@ fn waits_so(rt: &(impl Abort + Threads + Wait + Sync), alloc: Global, run: &Wait
     let gate = Watch::new(run.held, run.looks);
     let plans = likes(rt, alloc, run.submitters, run.each);
     let report = one_page(1, 2, run.turns).report(rt, alloc, plans, &gate);
-    assert_that(rt, has_phases(report, gate.phases()), "other phases");
+    assert_same(rt, "phases", phases_of(report), gate.phases());
     let waits = gate.gave_up() == run.in_vain && (!run.in_vain || gate.phases() == 1);
     drop(gate);
     waits
 }
 
-// Whether a run went through this many phases.
-fn has_phases(report: Report, phases: u32) -> bool {
-    report.phases.saturating_add(1) == phases
+// How many phases a run went through. Its report is dropped here.
+fn phases_of(report: Report) -> u32 {
+    report.phases.saturating_add(1)
 }
 
 #[test]
@@ -116,7 +117,7 @@ fn fill_stash(rt: &(impl Abort + Threads + Wait + Sync), alloc: Global, stash: u
     let gate = Watch::new(Held::FirstRequests(1), 1 << 24);
     let plans = requests(rt, alloc, Op::Look, 1, 200);
     let report = case.report(rt, alloc, plans, &gate);
-    assert_that(rt, !gate.gave_up(), "phase 1 was late");
+    assert_same(rt, "phase 1 was late", gate.gave_up(), false);
     drop(gate);
     most_stashed(report)
 }
@@ -128,6 +129,6 @@ fn fills_its_stash_and_no_other(rt: HostRuntime) {
         for _ in 0..RUNS {
             most = most.max(fill_stash(&rt, rt.alloc(), stash));
         }
-        assert_that(&rt, most == stash, "another stash");
+        assert_step(&rt, "a full stash", stash as usize, most, stash);
     }
 }

@@ -8,9 +8,10 @@ ghost use Rattle.like_crew.specs.Crew.{AreGone, CrewView, GoesOn};
 ghost use Rattle.like_crew.specs.Outcome.{HasOutcome};
 ghost use Rattle.like_run.specs.Rounds.{CanMake};
 
+use super::asserts::{assert_counts, assert_same};
 use super::cases::{
     Case, FULL_STASH, IDLE_WORKERS, LATE_WORKER, PLAIN_LIKES, SPLIT_AND_STASH, STASH_THEN_LIKE,
-    TWO_SLICES, UNSPLIT, assert_counts, assert_text, turns,
+    TWO_SLICES, UNSPLIT, turns,
 };
 use like_crew::{Outcome, OwnCrew, report_of, sizes_of};
 use like_replies::Report;
@@ -152,8 +153,8 @@ fn answers_in(rt: &impl Abort, alloc: Global, case: &Case) -> (String, Report) {
 // Asserts what the turns of a case's script answer, a word for each, and the counts of its run.
 fn assert_answers(rt: &impl Abort, alloc: Global, case: &Case, expected: &str, counts: &[u64]) {
     let (words, report) = answers_in(rt, alloc, case);
-    assert_text(rt, words.as_str().trim_end(), expected);
-    assert_counts(rt, report, counts);
+    assert_same(rt, case.script, words.as_str().trim_end(), expected);
+    assert_counts(rt, case.script, report, counts);
 }
 
 // Three rounds of four workers, three of them without a submitter, and the turns that end the run.

@@ -1,3 +1,4 @@
+-- Why each step of a pass and of the keeper keeps a lock's rule, and what the order of all deeds weighs.
 pub mod Ends
 pub mod Holding
 pub mod Keepers

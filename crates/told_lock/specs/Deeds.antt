@@ -18,7 +18,7 @@ named name log = map (λ c. (name, c)) log
 abbrev pub deeds_in : {C : Type 0} → Named C → List C
 deeds_in es = map (λ e. e.1) es
 
--- those of one pass
+-- the deeds of one pass
 abbrev pub deeds_by : {C : Type 0} → ℕ → Named C → List C
 deeds_by name es = deeds_in (filter (λ e. e.0 == name) es)
 

@@ -34,7 +34,7 @@ abbrev pub TakesStates : Core → Core → Event → Type 0
 TakesStates old new event =
     (z : Opening) (s : CoreState) → StandsFor old z s → StandsFor new z (after z s event)
 
--- the same of a list of events, one after the other
+-- if the old core stands for a state, the new one stands for the state after these events, one after the other
 abbrev pub TakesStatesAll : Core → Core → List Event → Type 0
 TakesStatesAll old new events =
     (z : Opening) (s : CoreState) → StandsFor old z s → StandsFor new z (fold (after z) s events)

@@ -39,6 +39,6 @@ pub record IsInPhase (z : Opening) (s : CoreState) : Type 0 where
 abbrev pub ReachableIsExclusive : Type 0
 ReachableIsExclusive = (z : Opening) (s : CoreState) → Reachable z s → IsExclusive s × IsInPhase z s
 
--- so is every state that moves reach
+-- every state that moves reach is exclusive, and in phase
 abbrev pub ReachedIsExclusive : Type 0
 ReachedIsExclusive = (z : Opening) (s : CoreState) → Reached z s → IsExclusive s × IsInPhase z s

@@ -29,7 +29,7 @@ LikesStayReachable =
     (z : Opening) (s : CoreState) (more : ℕ → List ℕ)
     → Reachable z s → MayLike z s more → Reachable z (given s more)
 
--- and a state that moves reach, by moves
+-- a state that moves reach stays one with unmerged likes of split pages at workers that run the phase
 abbrev pub LikesStayReached : Type 0
 LikesStayReached =
     (z : Opening) (s : CoreState) (more : ℕ → List ℕ)

@@ -31,7 +31,7 @@ pub record HasMade (log : List LogEntry) (v : WorkerSeatView) : Type 0 where
   pub logged : logged_by v.worker log ≡ v.logged
   pub done : HasDone (steps_in log) v
 
--- that is so of a view; the coordinator's has what the seats that were given back to it made
+-- a worker's view tells what its seat made in the log; the coordinator's, what the seats that came back to it made
 abbrev pub HasOrder : List LogEntry → View → Type 0
 HasOrder log (Coord c) =
     (place : ℕ) (v : WorkerSeatView) → get_elem? c.joined place ≡ some v → HasMade log v
@@ -48,7 +48,7 @@ pub record IsOrder (z : Opening) (s : CoreState) (views : List View) (log : List
   pub applied : (page : ℕ) → s.applied page ≡ applied_of log page
   -- each view's entries are what it says that it made, with their numbers
   pub each : (place : ℕ) (view : View) → get_elem? views place ≡ some view → HasOrder log view
-  -- and no worker without a seat has an entry
+  -- no worker without a seat has an entry
   pub others : (i : ℕ) → sum_by (seats_of i) views ≡ 0 → logged_by i log ≡ []
 
 -- a worker's step at a page comes next: the worker has this seat and no other, runs the present phase, and finds the
@@ -107,7 +107,7 @@ OtherStepKeepsOrder =
     → IsOrder z s views log
     → IsOrder z t (slice_set views place b) log
 
--- so does a worker's seat that is given back to the coordinator
+-- a worker's seat that is given back to the coordinator leaves the order
 abbrev pub JoinKeepsOrder : Type 0
 JoinKeepsOrder =
     (z : Opening) (s : CoreState) (views : List View) (log : List LogEntry) (place other : ℕ) (c : CoordSeatView)
@@ -117,7 +117,7 @@ JoinKeepsOrder =
     → IsOrder z s views log
     → IsOrder z s (slice_set (slice_set views place (Coord (gathered_coord c v))) other Spent) log
 
--- and a new seat of a worker that had none
+-- a new seat of a worker that had none leaves the order
 abbrev pub NewSeatKeepsOrder : Type 0
 NewSeatKeepsOrder =
     (z : Opening) (s : CoreState) (views : List View) (log : List LogEntry) (place : ℕ) (c : CoordSeatView)

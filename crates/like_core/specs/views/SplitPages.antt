@@ -22,7 +22,7 @@ pub record AreExact (z : Opening) (m : Moment z) : Type 0 where
       → (is_split_now z m.shown.state page ≡ true)
       ↔ IsInSlot (slot_in m.words) (slice_index m.words mask_place) hot_pages page
 
--- so it is at each moment of a split phase of a service
+-- at each moment of a split phase of a service the slots are exact
 abbrev pub SlotsAreExact : Type 0
 SlotsAreExact =
     (z : Opening) (m : Moment z) → has_slots z.limits ≡ true → IsSplit m.shown.state.phase → AreExact z m

@@ -20,7 +20,7 @@ places_in page logs = flat_map (λ p. places_of page p.0 p.1.adds.items) (enumer
 abbrev pub lists_in : List (Vec Place Global) → List (List Place)
 lists_in rows = map (λ row. row.items) rows
 
--- the same places, by rising counts before; those with the same one keep their order
+-- the places that were made, by rising counts before; those with the same count keep their order
 pub record AreByOld (made placed : List Place) : Type 0 where
   pub rising : IsNonDecreasingBy (λ p. p.old) placed
   pub same : (old : ℕ) → filter (λ p. p.old == old) placed ≡ filter (λ p. p.old == old) made

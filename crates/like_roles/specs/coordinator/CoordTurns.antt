@@ -82,7 +82,7 @@ pub record CoordTurns (v : CoordinatorView) (answer : CoordTurn) (after : Coordi
   pub event : Surveys v.seat sight (looked_coord v.seat word sight)
   pub acts : Acts (surveyed v word sight) sight answer after
 
--- the same at a board: where that tells what all its seats know, the look shows it
+-- turn case of the coordinator at a board: where that tells what all its seats know, the look shows it
 pub record TurnsAt (b : BoardView) (v : CoordinatorView) (answer : CoordTurn) (after : CoordinatorView) : Type 0 where
   pub turn : CoordTurns v answer after
   pub fresh : ShowsTold b v.seat.phase turn.sight

@@ -71,7 +71,8 @@ pub record HasRoomFor (likes sliced stashed : ℕ) (d : Ledger) : Type 0 where
   pub adds : d.notes ≡ true → vec_len d.adds + sliced + stashed + sum d.left.items ≤ vec_capacity d.adds
   pub few : likes + stashed + sum d.left.items ≤ max_likes
 
--- and there is room to run one more request
+-- there is room to run what is stashed, what was not taken yet and one more request; and, if additions are noted, to
+-- note one more
 pub record HasRoomForMore (likes sliced stashed : ℕ) (d : Ledger) : Type 0 where
   pub ran : vec_len d.ran + stashed + sum d.left.items < vec_capacity d.ran
   pub adds : d.notes ≡ true → vec_len d.adds + sliced + stashed + sum d.left.items < vec_capacity d.adds
@@ -116,7 +117,7 @@ pub record IsSoundAt (post : WorkerSeatView) (stash : StashView Held) (slice : L
 abbrev pub IsSound : StationView Held → Ledger → Type 0
 IsSound s d = IsSoundAt s.post s.stash s.slice s.last.share d
 
--- and no submitter is tried
+-- a worker's ledger is sound, and no submitter is tried
 pub record IsSettledAt (post : WorkerSeatView) (stash : StashView Held) (slice : List ℕ) (users : Share) (d : Ledger)
     : Type 0 where
   pub sound : IsSoundAt post stash slice users d

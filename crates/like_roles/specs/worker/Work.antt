@@ -22,7 +22,7 @@ pub record IsReady (post : WorkerSeatView) (w : Work) : Type 0 where
   pub kept : IsKept post w.tables
   pub sound : IsSound (station_at post w) w.ledger
 
--- and no submitter is tried
+-- the work is ready, and no submitter is tried
 pub record IsIdle (post : WorkerSeatView) (w : Work) : Type 0 where
   pub kept : IsKept post w.tables
   pub settled : IsSettled (station_at post w) w.ledger

@@ -1,5 +1,5 @@
 //! How many rows are taken, and refused one past it.
-use crate::files::assert_that;
+use crate::files::{assert_same, assert_that};
 use like_requests::{Pages, PagesFault, ScriptFault, Turned, read_pages, read_script};
 use std::alloc::{AllocError, Global};
 use std::process::Abort;
@@ -34,7 +34,7 @@ fn has_length<T: Drop>(list: Result<Vec<T>, AllocError>, length: usize) -> bool 
 
 // Stops the test unless these are 1,024 pages, with as many counts and marks.
 fn assert_all(rt: &impl Abort, alloc: Global, pages: &Pages) {
-    assert_that(rt, pages.len() == 1_024, "not 1,024");
+    assert_same(rt, "pages", pages.len(), 1_024);
     assert_that(rt, has_length(pages.counts(alloc), 1_024), "memory");
     assert_that(rt, has_length(pages.marks(alloc), 1_024), "memory");
 }
@@ -54,11 +54,7 @@ fn of_pages(rt: HostRuntime) {
 #[test]
 fn of_a_page_past_them(rt: HostRuntime) {
     let fault = pages(&rt, rt.alloc(), 1_025).err();
-    assert_that(
-        &rt,
-        fault == Some(PagesFault::TooMany),
-        "out of memory, or another answer",
-    );
+    assert_same(&rt, "1,025 pages", fault, Some(PagesFault::TooMany));
 }
 
 // A script of this many turns of the coordinator.
@@ -76,15 +72,11 @@ fn script(rt: &impl Abort, alloc: Global, turns: usize) -> Result<Vec<Turned>, S
 #[test]
 fn of_entries(rt: HostRuntime) {
     let turns = script(&rt, rt.alloc(), 1_000_000).expect(&rt, "a script");
-    assert_that(&rt, turns.len() == 1_000_000, "not a million");
+    assert_same(&rt, "entries", turns.len(), 1_000_000);
 }
 
 #[test]
 fn of_an_entry_past_them(rt: HostRuntime) {
     let fault = script(&rt, rt.alloc(), 1_000_001).err();
-    assert_that(
-        &rt,
-        fault == Some(ScriptFault::TooMany),
-        "out of memory, or another answer",
-    );
+    assert_same(&rt, "1,000,001 entries", fault, Some(ScriptFault::TooMany));
 }

@@ -1,5 +1,5 @@
 //! What logs are collected to.
-use crate::files::{assert_text, assert_that, push, shown};
+use crate::files::{assert_same, assert_text, push, shown};
 use crate::replies::log_of;
 use like_replies::{collect, collect_in_parallel};
 use like_roles::{Ran, Reply, WorkerLog};
@@ -176,5 +176,5 @@ fn answered(rt: &impl Abort, alloc: Global, entries: &[Entry]) -> usize {
 fn as_many_submitters_as_there_may_be(rt: HostRuntime) {
     let entries = one_each(&rt, rt.alloc(), 64);
     let answered = answered(&rt, rt.alloc(), &entries);
-    assert_that(&rt, answered == 64, "not 64");
+    assert_same(&rt, "submitters with replies", answered, 64);
 }

@@ -5,7 +5,7 @@ ghost use Rattle.like_requests.specs.Pages.{Page};
 ghost use Rattle.like_replies.specs.Reported.{reported};
 ghost use Rattle.like_replies.specs.Rows.{IsWritable};
 
-use crate::files::{assert_bytes, assert_that, list, pages_of};
+use crate::files::{assert_bytes, assert_same, assert_step, list, pages_of};
 use like_replies::{Report, WriteFault, write_places, write_report};
 use like_requests::Pages;
 use std::alloc::Global;
@@ -83,14 +83,10 @@ fn assert_writes(
 {
     for bytes in 0..text.len() {
         let (fault, _) = write_within(rt, alloc, part, report, pages, bytes);
-        assert_that(
-            rt,
-            fault == Some(WriteFault::Write),
-            "no fault, or want of memory",
-        );
+        assert_step(rt, "bytes of room", bytes, fault, Some(WriteFault::Write));
     }
     let (fault, written) = write_within(rt, alloc, part, report, pages, text.len());
-    assert_that(rt, fault.is_none(), "a fault, or want of memory");
+    assert_same(rt, "a write", fault, None);
     assert_bytes(rt, written, text.as_bytes());
 }
 

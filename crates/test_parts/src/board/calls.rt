@@ -1,9 +1,8 @@
-use like_core::{CoordSight, Sight};
-
 /// A call of a worker's post, with its answer.
-#[derive(Clone, Copy)]
+#[derive(Clone, Copy, Debug, PartialEq)]
 pub enum OnPost {
-    Look(Sight),
+    /// The present phase, whether its end is announced, and whether the worker has answered it.
+    Look(u64, bool, bool),
     /// An acknowledgement or a report, as the phase asks.
     Answer,
     /// A like of this page in a joined phase, and the page's count before.
@@ -20,9 +19,10 @@ pub enum OnPost {
 }
 
 /// A call of the coordinator's seat, with its answer.
-#[derive(Clone, Copy)]
+#[derive(Clone, Copy, Debug, PartialEq)]
 pub enum OnCoord {
-    Look(CoordSight),
+    /// The present phase, whether its end is announced, whether all workers are in, and whether all are gone.
+    Look(u64, bool, bool, bool),
     Announce,
     /// The count of page 0.
     Count(u64),

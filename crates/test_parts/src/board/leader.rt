@@ -36,29 +36,29 @@ impl Leader {
         }
     }
 
-    /// Makes a call, and tells whether it may be made and is answered as it says.
-    pub fn answers(&mut self, board: &Board, call: OnCoord) -> bool
+    /// Makes a call, and gives it with the answer that came. None if it may not be made.
+    pub fn makes(&mut self, board: &Board, call: OnCoord) -> Option<OnCoord>
         requires { coord_board self.old.seat ≡ board_id board.now }
         ensures { KeepsSeat self.old.seat self.new.seat }
     {
         match call {
-            OnCoord::Look(sight) => self.sees(board, sight),
+            OnCoord::Look(_, _, _, _) => Some(self.looks(board)),
             OnCoord::Announce => self.announces(board),
-            OnCoord::Count(count) => self.counts(board, count),
+            OnCoord::Count(_) => self.counts(board),
             OnCoord::Publish(mask) => self.publishes(board, mask),
             OnCoord::Release => self.releases(board),
-            OnCoord::IsIn(phase, last) => self.seat.phase() == phase && self.seat.is_last() == last,
+            OnCoord::IsIn(_, _) => Some(OnCoord::IsIn(self.seat.phase(), self.seat.is_last())),
         }
     }
 
-    fn sees(&mut self, board: &Board, want: CoordSight) -> bool
+    fn looks(&mut self, board: &Board) -> OnCoord
         requires { coord_board self.old.seat ≡ board_id board.now }
         ensures { KeepsSeat self.old.seat self.new.seat }
     {
         let sight = self.seat.look(board);
         self.saw = Some(sight);
         self.published = false;
-        sight == want
+        OnCoord::Look(sight.number, sight.ending, sight.all_in, sight.all_gone)
     }
 
     fn may_announce(&self) -> bool
@@ -67,16 +67,16 @@ impl Leader {
         matches!(self.saw, Some(sight) if !sight.ending) && !self.seat.is_last()
     }
 
-    fn announces(&mut self, board: &Board) -> bool
+    fn announces(&mut self, board: &Board) -> Option<OnCoord>
         requires { coord_board self.old.seat ≡ board_id board.now }
         ensures { KeepsSeat self.old.seat self.new.seat }
     {
         if !self.may_announce() {
-            return false;
+            return None;
         }
         self.seat.announce(board);
         self.saw = None;
-        true
+        Some(OnCoord::Announce)
     }
 
     fn saw_all_in(&self) -> bool
@@ -93,36 +93,39 @@ impl Leader {
         self.saw_all_in() && self.seat.phase() % 2 == 0
     }
 
-    fn counts(&mut self, board: &Board, count: u64) -> bool
+    fn counts(&mut self, board: &Board) -> Option<OnCoord>
         requires { coord_board self.old.seat ≡ board_id board.now }
         ensures { KeepsSeat self.old.seat self.new.seat }
     {
-        self.may_choose() && self.seat.count(board, 0) == count
+        if !self.may_choose() {
+            return None;
+        }
+        Some(OnCoord::Count(self.seat.count(board, 0)))
     }
 
-    fn publishes(&mut self, board: &Board, mask: u64) -> bool
+    fn publishes(&mut self, board: &Board, mask: u64) -> Option<OnCoord>
         requires { coord_board self.old.seat ≡ board_id board.now }
         ensures { KeepsSeat self.old.seat self.new.seat }
     {
         if !self.may_choose() || mask >= 2 {
-            return false;
+            return None;
         }
         self.seat.publish(board, mask);
         self.published = true;
-        true
+        Some(OnCoord::Publish(mask))
     }
 
     // A split phase is released once its mask was published.
-    fn releases(&mut self, board: &Board) -> bool
+    fn releases(&mut self, board: &Board) -> Option<OnCoord>
         requires { coord_board self.old.seat ≡ board_id board.now }
         ensures { KeepsSeat self.old.seat self.new.seat }
     {
         let may_release = self.published || self.seat.phase() % 2 == 1;
         if !self.saw_all_in() || !may_release {
-            return false;
+            return None;
         }
         self.seat.release(board);
         self.saw = None;
-        true
+        Some(OnCoord::Release)
     }
 }

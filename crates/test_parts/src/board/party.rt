@@ -6,7 +6,7 @@ ghost use Rattle.test_parts.specs.Walk.{IsWorkerAt, KeepsSeat};
 use super::calls::Step;
 use super::leader::Leader;
 use super::walker::Walker;
-use crate::asserts::assert_call_at;
+use crate::asserts::assert_part;
 use like_board::Board;
 use like_core::{Glances, Post};
 use std::process::Abort;
@@ -37,21 +37,30 @@ impl<P: Glances> Party<'_, P> {
         ensures { KeepsSeat self.old.leader.seat self.new.leader.seat }
     {
         for at in 0..steps.len() {
-            assert_call_at(rt, self.answers(steps[at]), part, at);
+            self.makes_one(rt, part, at, steps[at]);
         }
     }
 
-    // Makes a call, and tells whether it is answered as it says.
-    fn answers(&mut self, step: Step) -> bool
+    // Makes the call of a step, and asserts that it is answered as it says.
+    fn makes_one(&mut self, rt: &impl Abort, part: usize, at: usize, step: Step)
         ensures { KeepsSeat self.old.leader.seat self.new.leader.seat }
     {
         match step {
-            Step::Coord(call) => self.leader.answers(self.board, call),
-            Step::First(call) => self.first.answers(call),
-            Step::Second(call) => match &mut self.second {
-                Some(second) => second.answers(call),
-                None => false,
-            },
+            Step::Coord(call) => {
+                let made = self.leader.makes(self.board, call);
+                assert_part(rt, "the coordinator", part, at, made, Some(call));
+            }
+            Step::First(call) => {
+                let made = self.first.makes(call);
+                assert_part(rt, "the first worker", part, at, made, Some(call));
+            }
+            Step::Second(call) => {
+                let made = match &mut self.second {
+                    Some(second) => second.makes(call),
+                    None => None,
+                };
+                assert_part(rt, "the second worker", part, at, made, Some(call));
+            }
         }
     }
 }

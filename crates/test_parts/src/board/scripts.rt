@@ -1,6 +1,5 @@
 //! The calls of those at boards of one page, in their order.
 use super::calls::{OnCoord, OnPost, Step};
-use like_core::{CoordSight, Sight};
 
 /// Two workers walk through three phases of a page that is marked and begins at 10.
 pub fn three_phases() -> &'static [&'static [Step]] {
@@ -30,23 +29,14 @@ pub fn likes() -> &'static [&'static [Step]] {
 // A worker's look at this phase, whose end is announced or not, and which it has answered or not.
 macro_rules! looks {
     ($who:ident, $number:literal, $ending:literal, $waits:literal) => {
-        Step::$who(OnPost::Look(Sight {
-            number: $number,
-            ending: $ending,
-            waits: $waits,
-        }))
+        Step::$who(OnPost::Look($number, $ending, $waits))
     };
 }
 
 // The coordinator's look at this phase: its end is announced or not, and all workers are in or not.
 macro_rules! surveys {
     ($number:literal, $ending:literal, $all_in:literal) => {
-        Step::Coord(OnCoord::Look(CoordSight {
-            number: $number,
-            ending: $ending,
-            all_in: $all_in,
-            all_gone: false,
-        }))
+        Step::Coord(OnCoord::Look($number, $ending, $all_in, false))
     };
 }
 
@@ -68,12 +58,7 @@ macro_rules! is_in {
 }
 
 // The coordinator sees all workers gone from phase 2.
-const ALL_GONE: Step = Step::Coord(OnCoord::Look(CoordSight {
-    number: 2,
-    ending: false,
-    all_in: true,
-    all_gone: true,
-}));
+const ALL_GONE: Step = Step::Coord(OnCoord::Look(2, false, true, true));
 
 // Two workers acknowledge phase 0, and the first enters phase 1.
 const TO_SPLIT: &[Step] = &[

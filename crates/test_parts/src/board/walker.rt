@@ -1,5 +1,5 @@
 //! A worker of a board, which knows the traits `Post` and `Glances` alone.
-ghost use Rattle.std.specs.Prelude.{◌≡◌, ◌^◌, ◌<◌, ◌≤◌, true, IsTrue};
+ghost use Rattle.std.specs.Prelude.{◌≡◌, ◌^◌, ◌<◌, ◌≤◌, IsTrue};
 ghost use Rattle.like_limits.specs.Limits.{hot_pages};
 ghost use Rattle.like_core.specs.Phase.{is_marked};
 ghost use Rattle.like_core.specs.WorkerState.{RunsJoined, SawEnding, phase_of, seen};
@@ -51,45 +51,45 @@ impl<P: Glances> Walker<P> {
         Walker { post, known }
     }
 
-    /// Makes a call, and tells whether it may be made and is answered as it says.
-    pub fn answers(&mut self, call: OnPost) -> bool
+    /// Makes a call, and gives it with the answer that came. None if it may not be made.
+    pub fn makes(&mut self, call: OnPost) -> Option<OnPost>
         ensures { KeepsPlace (P.board self.old.post) (P.view self.old.post)
             (P.board self.new.post) (P.view self.new.post) }
     {
         match call {
-            OnPost::Look(sight) => self.sees(sight),
+            OnPost::Look(_, _, _) => self.looks(),
             OnPost::Answer => self.stops(),
-            OnPost::Like(page, old) => self.likes(page, old),
-            OnPost::Merge(likes, old) => self.merges(likes, old),
-            OnPost::Read(page, count) => self.reads(page, count),
-            OnPost::Glance(count) => self.glances(count),
-            OnPost::Hot(mask) => self.learns(mask),
+            OnPost::Like(page, _) => self.likes(page),
+            OnPost::Merge(likes, _) => self.merges(likes),
+            OnPost::Read(page, _) => self.reads(page),
+            OnPost::Glance(_) => self.glances(),
+            OnPost::Hot(_) => self.learns(),
             OnPost::Retire => self.retires(),
         }
     }
 
-    fn sees(&mut self, want: Sight) -> bool
+    fn looks(&mut self) -> Option<OnPost>
         ensures { KeepsPlace (P.board self.old.post) (P.view self.old.post)
             (P.board self.new.post) (P.view self.new.post) }
     {
         if self.known.state == WorkerState::Gone {
-            return false;
+            return None;
         }
         let sight = self.post.look();
         self.known.state = state_after(self.known.state, sight);
         self.known.last = Some(sight);
-        sight == want
+        Some(OnPost::Look(sight.number, sight.ending, sight.waits))
     }
 
-    fn stops(&mut self) -> bool
+    fn stops(&mut self) -> Option<OnPost>
         ensures { KeepsPlace (P.board self.old.post) (P.view self.old.post)
             (P.board self.new.post) (P.view self.new.post) }
     {
         let WorkerState::Runs(phase) = self.known.state else {
-            return false;
+            return None;
         };
         if !self.saw_ending() {
-            return false;
+            return None;
         }
         if phase % 2 == 0 {
             self.post.acknowledge();
@@ -97,7 +97,7 @@ impl<P: Glances> Walker<P> {
             self.post.report();
         }
         self.known.state = WorkerState::Answered(phase);
-        true
+        Some(OnPost::Answer)
     }
 
     fn saw_ending(&self) -> bool
@@ -140,67 +140,70 @@ impl<P: Glances> Walker<P> {
         old
     }
 
-    fn likes(&mut self, page: u32, old: u64) -> bool
+    fn likes(&mut self, page: u32) -> Option<OnPost>
         ensures { KeepsPlace (P.board self.old.post) (P.view self.old.post)
             (P.board self.new.post) (P.view self.new.post) }
     {
         if !self.runs_joined() || page >= self.known.pages || self.known.room == 0 {
-            return false;
+            return None;
         }
-        self.add(page, 1) == old
+        Some(OnPost::Like(page, self.add(page, 1)))
     }
 
-    fn merges(&mut self, likes: u64, old: u64) -> bool
+    fn merges(&mut self, likes: u64) -> Option<OnPost>
         ensures { KeepsPlace (P.board self.old.post) (P.view self.old.post)
             (P.board self.new.post) (P.view self.new.post) }
     {
         let may_merge = self.saw_ending() && self.splits_first();
         if !may_merge || likes == 0 || likes > self.known.room {
-            return false;
+            return None;
         }
-        self.add(0, likes) == old
+        Some(OnPost::Merge(likes, self.add(0, likes)))
     }
 
-    fn reads(&mut self, page: u32, count: u64) -> bool
+    fn reads(&mut self, page: u32) -> Option<OnPost>
         ensures { KeepsPlace (P.board self.old.post) (P.view self.old.post)
             (P.board self.new.post) (P.view self.new.post) }
     {
         if !self.runs_joined() || page >= self.known.pages {
-            return false;
+            return None;
         }
-        self.post.read(page) == count
+        Some(OnPost::Read(page, self.post.read(page)))
     }
 
-    fn glances(&mut self, count: u64) -> bool
+    fn glances(&mut self) -> Option<OnPost>
         ensures { KeepsPlace (P.board self.old.post) (P.view self.old.post)
             (P.board self.new.post) (P.view self.new.post) }
     {
-        self.splits_first() && self.post.glance(0) == count
+        if !self.splits_first() {
+            return None;
+        }
+        Some(OnPost::Glance(self.post.glance(0)))
     }
 
-    fn learns(&mut self, mask: u64) -> bool
+    fn learns(&mut self) -> Option<OnPost>
         ensures { KeepsPlace (P.board self.old.post) (P.view self.old.post)
             (P.board self.new.post) (P.view self.new.post) }
     {
         match self.known.state {
             WorkerState::Runs(phase) if phase % 2 == 1 => {
-                let read = self.post.hot();
-                self.known.hot_in = if read == 1 { Some(phase) } else { None };
-                read == mask
+                let mask = self.post.hot();
+                self.known.hot_in = if mask == 1 { Some(phase) } else { None };
+                Some(OnPost::Hot(mask))
             }
-            _ => false,
+            _ => None,
         }
     }
 
-    fn retires(&mut self) -> bool
+    fn retires(&mut self) -> Option<OnPost>
         ensures { KeepsPlace (P.board self.old.post) (P.view self.old.post)
             (P.board self.new.post) (P.view self.new.post) }
     {
         if !self.runs_joined() {
-            return false;
+            return None;
         }
         self.post.retire();
         self.known.state = WorkerState::Gone;
-        true
+        Some(OnPost::Retire)
     }
 }

@@ -4,8 +4,8 @@ ghost use Rattle.like_limits.specs.Limits.{max_requests};
 mod cases;
 
 use super::LIKE;
-use crate::asserts::{assert_call, assert_named};
-use cases::{Call, Case, cases, of_one};
+use crate::asserts::{assert_named, assert_same, assert_step};
+use cases::{AtEnd, Call, Case, cases, of_one};
 use like_queue::{
     EndRefused, Line, ListInbox, PushRefused, SendEnd, SendPass, TakeEnd, TakePass, TakeWith,
 };
@@ -25,21 +25,25 @@ fn pushes<R: Wait>(rt: &R, end: &mut SendEnd<'_>, want: Result<u32, PushRefused>
     }
 }
 
-// Whether the requests of these numbers are pushed.
-fn pushes_each<R: Wait>(rt: &R, end: &mut SendEnd<'_>, first: u32, last: u32) -> bool {
+// Pushes the requests of these numbers, and gives the last one before which all are pushed.
+fn pushes_each<R: Wait>(rt: &R, end: &mut SendEnd<'_>, first: u32, last: u32) -> u32 {
     for number in first..=last {
         if !pushes(rt, end, Ok(number)) {
-            return false;
+            return number.saturating_sub(1);
         }
     }
-    true
+    last
 }
 
-// Whether no request is left, and a push of the end mark is answered so.
-fn ends<R: Wait>(rt: &R, end: &mut SendEnd<'_>, want: Result<(), EndRefused>) -> bool {
+// What a push of the end mark answers. None if a request is left.
+fn ends<R: Wait>(rt: &R, end: &mut SendEnd<'_>) -> Option<AtEnd> {
     match end.next() {
-        Some(_) => false,
-        None => end.end(rt) == want,
+        Some(_) => None,
+        None => match end.end(rt) {
+            Ok(()) => Some(AtEnd::Pushed),
+            Err(EndRefused::Full) => Some(AtEnd::Full),
+            Err(EndRefused::Ended) => Some(AtEnd::Ended),
+        },
     }
 }
 
@@ -54,18 +58,18 @@ fn ends_for_good<R: Wait>(rt: &R, end: &mut SendEnd<'_>) -> bool {
     }
 }
 
-// Whether the requests of these numbers are taken.
-fn takes_each<R: Wait>(rt: &R, end: &mut TakeEnd<'_>, first: u32, last: u32) -> bool {
+// Takes the requests of these numbers, and gives the last one up to which all are taken.
+fn takes_each<R: Wait>(rt: &R, end: &mut TakeEnd<'_>, first: u32, last: u32) -> u32 {
     for number in first..=last {
         let ask = Numbered {
             number,
             request: LIKE,
         };
         if end.take(rt) != Taken::Ask(ask) {
-            return false;
+            return number.saturating_sub(1);
         }
     }
-    true
+    last
 }
 
 // Whether the end mark is taken.
@@ -189,38 +193,51 @@ fn takes_some<R: Wait>(rt: &R, end: &mut TakeEnd<'_>, passed: &mut Passed, count
     true
 }
 
-// Whether 20,000 requests go through a line, some pushes and some takes at a time.
-fn goes_through<R: Wait>(rt: &R, send: &mut SendEnd<'_>, take: &mut TakeEnd<'_>) -> bool {
+// How many requests go through a line, some pushes and some takes at a time. None if one is answered wrong.
+fn goes_through<R: Wait>(rt: &R, send: &mut SendEnd<'_>, take: &mut TakeEnd<'_>) -> Option<u32> {
     let mut passed = Passed { sent: 0, taken: 0 };
     for step in 0..2_000_u32 {
         if !pushes_some(rt, send, &mut passed, step.wrapping_mul(37) % 71)
             || !takes_some(rt, take, &mut passed, step.wrapping_mul(53) % 73)
         {
-            return false;
+            return None;
         }
     }
-    passed.taken == 20_000
+    Some(passed.taken)
 }
 
-// Makes a call, and tells whether it is answered as it says.
-fn answers<R: Wait>(rt: &R, send: &mut SendEnd<'_>, take: &mut TakeEnd<'_>, call: Call) -> bool {
+// Makes a call, and gives it with the answer that came. None if that is none of those that a call may have.
+fn made<R: Wait>(
+    rt: &R,
+    send: &mut SendEnd<'_>,
+    take: &mut TakeEnd<'_>,
+    call: Call,
+) -> Option<Call> {
     match call {
-        Call::Next(want) => send.next() == want,
-        Call::Push(first, last) => pushes_each(rt, send, first, last),
-        Call::PushFull => pushes(rt, send, Err(PushRefused::Full(LIKE))),
-        Call::End(want) => ends(rt, send, want),
-        Call::EndIsLast => ends_for_good(rt, send),
-        Call::Take(first, last) => takes_each(rt, take, first, last),
-        Call::TakeEnd => takes_end(rt, take),
-        Call::GoThrough => goes_through(rt, send, take),
+        Call::Next(_) => Some(Call::Next(send.next())),
+        Call::Push(first, last) => Some(Call::Push(first, pushes_each(rt, send, first, last))),
+        Call::PushFull if !pushes(rt, send, Err(PushRefused::Full(LIKE))) => None,
+        Call::End(_) => match ends(rt, send) {
+            Some(answer) => Some(Call::End(answer)),
+            None => None,
+        },
+        Call::EndIsLast if !ends_for_good(rt, send) => None,
+        Call::Take(first, last) => Some(Call::Take(first, takes_each(rt, take, first, last))),
+        Call::TakeEnd if !takes_end(rt, take) => None,
+        Call::GoThrough(_) => match goes_through(rt, send, take) {
+            Some(taken) => Some(Call::GoThrough(taken)),
+            None => None,
+        },
+        _ => Some(call),
     }
 }
 
 // Makes the calls of a case, and asserts their answers.
 fn play<R: Wait + Abort>(rt: &R, send: &mut SendEnd<'_>, take: &mut TakeEnd<'_>, case: &Case) {
     for at in 0..case.calls.len() {
-        let answered = answers(rt, send, take, case.calls[at]);
-        assert_call(rt, answered, case.name, at);
+        let call = case.calls[at];
+        let made = made(rt, send, take, call);
+        assert_step(rt, case.name, at, made, Some(call));
     }
 }
 
@@ -275,7 +292,7 @@ fn a_refused_growth_is_told(rt: HostRuntime) -> Result<(), Fail> {
 fn goes_to_another_thread(rt: HostRuntime) -> Result<(), Fail> {
     let plan = plan_of(&rt, rt.alloc(), 10_000)?;
     let last = through(&rt, rt.alloc(), plan)?;
-    assert_named(&rt, last == 10_000, "the last number");
+    assert_same(&rt, "the last number", last, 10_000);
     Ok(())
 }
 
@@ -283,6 +300,6 @@ fn goes_to_another_thread(rt: HostRuntime) -> Result<(), Fail> {
 fn takes_from_a_list_as_from_a_line(rt: HostRuntime) -> Result<(), Fail> {
     let mut inbox = ListInbox::new(plan_of(&rt, rt.alloc(), 3)?);
     inbox.open_all();
-    assert_named(&rt, last_number(&rt, inbox) == 3, "the last number");
+    assert_same(&rt, "the last number", last_number(&rt, inbox), 3);
     Ok(())
 }

@@ -1,14 +1,16 @@
 use super::LIKE;
-use crate::asserts::{assert_call, assert_named};
+use crate::asserts::{assert_named, assert_step};
 use like_queue::ListInbox;
 use like_requests::{Numbered, Request, Taken};
 use std::process::Abort;
 use std::test::Fail;
 
-// A call of a list's inbox, with its answer.
-#[derive(Clone, Copy)]
+// A call of a list's inbox, with its answer. A take gives nothing, the first request or the end mark.
+#[derive(Clone, Copy, Debug, PartialEq)]
 enum Call {
-    Take(Taken),
+    TakeNothing,
+    TakeFirst,
+    TakeEnd,
     OpenOne(bool),
     OpenAll,
 }
@@ -24,41 +26,49 @@ const LISTS: &[(&[Request], &[Call])] = &[
     (
         &[LIKE],
         &[
-            Call::Take(Taken::Nothing),
+            Call::TakeNothing,
             Call::OpenOne(true),
-            Call::Take(FIRST),
+            Call::TakeFirst,
             Call::OpenOne(true),
-            Call::Take(Taken::End),
-            Call::Take(Taken::End),
+            Call::TakeEnd,
+            Call::TakeEnd,
             Call::OpenOne(false),
         ],
     ),
-    (
-        &[],
-        &[Call::OpenAll, Call::OpenOne(false), Call::Take(Taken::End)],
-    ),
+    (&[], &[Call::OpenAll, Call::OpenOne(false), Call::TakeEnd]),
 ];
 
 fn lists() -> &'static [(&'static [Request], &'static [Call])] {
     LISTS
 }
 
-// Makes a call, and tells whether it is answered as it says.
-fn answers(inbox: &mut ListInbox, call: Call) -> bool {
+// The call that a take is by what it gives. None if that is another request.
+fn take_of(taken: Taken) -> Option<Call> {
+    match taken {
+        Taken::Nothing => Some(Call::TakeNothing),
+        Taken::End => Some(Call::TakeEnd),
+        Taken::Ask(_) if taken == FIRST => Some(Call::TakeFirst),
+        Taken::Ask(_) => None,
+    }
+}
+
+// Makes a call, and gives it with the answer that came.
+fn made(inbox: &mut ListInbox, call: Call) -> Option<Call> {
     match call {
-        Call::Take(want) => inbox.take() == want,
-        Call::OpenOne(want) => inbox.open_one() == want,
+        Call::OpenOne(_) => Some(Call::OpenOne(inbox.open_one())),
         Call::OpenAll => {
             inbox.open_all();
-            true
+            Some(call)
         }
+        _ => take_of(inbox.take()),
     }
 }
 
 // Makes the calls of a list's inbox, and asserts their answers.
 fn call_list(rt: &impl Abort, inbox: &mut ListInbox, calls: &[Call]) {
     for at in 0..calls.len() {
-        assert_call(rt, answers(inbox, calls[at]), "list", at);
+        let call = calls[at];
+        assert_step(rt, "list", at, made(inbox, call), Some(call));
     }
 }
 

@@ -3,7 +3,7 @@ ghost use Rattle.std.specs.Prelude.{◌≡◌, [], ◌∷◌, IfOk};
 ghost use Rattle.like_core.specs.OpeningLimits.{run_limits};
 ghost use Rattle.like_board.specs.Seats.{board_id, coord_board, coord_view};
 
-use crate::asserts::assert_named;
+use crate::asserts::assert_same;
 use like_board::{Board, CoordSeat};
 use like_roles::{CoordTurn, Coordinator, NoCoordinator};
 use std::alloc::Global;
@@ -25,15 +25,20 @@ fn coordinator_at(alloc: Global, coord: CoordSeat) -> Result<(Coordinator, bool)
     }
 }
 
-// Whether a coordinator announces the end of phase 0, waits for the worker, and has chosen no page.
-fn leads(board: &Board, mut coordinator: Coordinator) -> bool
+// A coordinator announces the end of phase 0, waits for the worker, and has chosen no page.
+fn leads(rt: &impl Abort, board: &Board, mut coordinator: Coordinator)
     requires { coordinator.board ≡ board_id board.now }
 {
-    let announces = coordinator.turn(board) == CoordTurn::Announced;
-    let waits = coordinator.turn(board) == CoordTurn::Waiting;
-    let phase = coordinator.phase();
+    let turns = (coordinator.turn(board), coordinator.turn(board));
+    assert_same(
+        rt,
+        "turns",
+        turns,
+        (CoordTurn::Announced, CoordTurn::Waiting),
+    );
+    assert_same(rt, "the phase", coordinator.phase(), 0);
     let (_, chosen) = coordinator.finish();
-    announces && waits && phase == 0 && chosen.is_empty()
+    assert_same(rt, "chosen pages", chosen.len(), 0);
 }
 
 // A coordinator is right at its board, also after it was refused memory, which is told.
@@ -43,7 +48,7 @@ fn assert_leads(rt: &impl Abort, alloc: Global, board: &Board, coord: CoordSeat)
     requires run { (coord_view coord).opening.limits ≡ run_limits }
 {
     let (coordinator, refused) = coordinator_at(alloc, coord)?;
-    assert_named(rt, leads(board, coordinator), "the turns of a coordinator");
+    leads(rt, board, coordinator);
     if refused {
         return Err(Fail::new("out of memory, and then right"));
     }

@@ -37,10 +37,10 @@ impl Expecting {
         }
     }
 
-    /// Whether the calls that are expected were made, in their order, and no other.
-    pub fn is_content(&self) -> bool {
+    /// How many calls were made, and how many of them are not those that are expected in their place.
+    pub fn counts(&self) -> (usize, u32) {
         let made = self.made.load(Ordering::SeqCst) as usize;
-        made == self.calls.len() && self.wrong.load(Ordering::SeqCst) == 0
+        (made, self.wrong.load(Ordering::SeqCst))
     }
 
     // The call that is expected next, while one is made.

@@ -9,7 +9,7 @@ ghost use Rattle.like_roles.specs.worker.New.{AreNewSeats};
 
 use super::gates::Expecting;
 use super::player::Player;
-use crate::asserts::assert_call_at;
+use crate::asserts::assert_part;
 use like_board::{Board, BoardPost, CoordSeat, WorkerSeat};
 use like_core::Post;
 use like_requests::{Request, Setup};
@@ -19,7 +19,7 @@ use std::process::Abort;
 use std::test::Fail;
 
 /// A step of a script, with its answer.
-#[derive(Clone, Copy)]
+#[derive(Clone, Copy, Debug, PartialEq)]
 pub enum Step {
     /// A turn of the coordinator.
     Coord(CoordTurn),
@@ -141,20 +141,29 @@ impl<'a> Play<'a, BoardPost<'a>> {
 }
 
 impl<P: Post + Drop> Play<'_, P> {
-    /// Makes the steps of a part, and asserts that they are answered as they say.
-    pub fn make(&mut self, rt: &impl Abort, gate: &Expecting, part: usize, steps: &[Step]) {
+    /// Makes the steps of a part of a case, and asserts that they are answered as they say.
+    pub fn make(
+        &mut self,
+        rt: &impl Abort,
+        gate: &Expecting,
+        case: &str,
+        part: usize,
+        steps: &[Step],
+    ) {
         for at in 0..steps.len() {
-            assert_call_at(rt, self.answers(gate, steps[at]), part, at);
+            let step = steps[at];
+            let made = self.made(gate, step);
+            assert_part(rt, case, part, at, made, Some(step));
         }
     }
 
-    // Makes a step, and tells whether it is answered as it says.
-    fn answers(&mut self, gate: &Expecting, step: Step) -> bool {
+    // Makes a step, and gives it with the answer that came. None if there is no such worker.
+    fn made(&mut self, gate: &Expecting, step: Step) -> Option<Step> {
         match step {
-            Step::Coord(want) => self.coordinator.turn(self.board) == want,
-            Step::Worker(worker, want) => match self.players.get_mut(worker as usize) {
-                Some(player) => player.turn(gate) == want,
-                None => false,
+            Step::Coord(_) => Some(Step::Coord(self.coordinator.turn(self.board))),
+            Step::Worker(worker, _) => match self.players.get_mut(worker as usize) {
+                Some(player) => Some(Step::Worker(worker, player.turn(gate))),
+                None => None,
             },
         }
     }

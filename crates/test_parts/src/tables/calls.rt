@@ -2,7 +2,7 @@
 use like_requests::{Numbered, Op, PageRef, Request};
 use like_tables::Held;
 
-#[derive(Clone, Copy)]
+#[derive(Clone, Copy, Debug, PartialEq)]
 pub enum OnSlice {
     /// A like of this page.
     Add(u32),
@@ -16,18 +16,19 @@ pub enum OnSlice {
     IsEmpty(bool),
 }
 
-#[derive(Clone, Copy)]
+#[derive(Clone, Copy, Debug, PartialEq)]
 pub enum OnStash {
     /// A look of this submitter.
     Push(u32),
     /// This many looks.
     Fill(u32),
-    Pop(Option<Held>),
+    /// The submitter of the look that comes out.
+    Pop(Option<u32>),
     IsFull(bool),
     Len(u32),
 }
 
-#[derive(Clone, Copy)]
+#[derive(Clone, Copy, Debug, PartialEq)]
 pub enum OnUsers {
     /// Whether the worker serves this user.
     Owns(u32, bool),
@@ -37,7 +38,7 @@ pub enum OnUsers {
     Set(u32, u32),
 }
 
-#[derive(Clone, Copy)]
+#[derive(Clone, Copy, Debug, PartialEq)]
 pub enum OnSplits {
     /// Splits this page, whose bucket is empty.
     Put(u32),
@@ -93,16 +94,6 @@ const HELD: Held = Held {
         },
     },
 };
-
-// The pop of a submitter's first look.
-macro_rules! pop {
-    ($submitter:literal) => {
-        OnStash::Pop(Some(Held {
-            submitter: $submitter,
-            ..HELD
-        }))
-    };
-}
 
 const SLICES: &[(u32, &[OnSlice])] = &[
     (
@@ -202,7 +193,7 @@ const STASHES: &[(u32, &[OnStash])] = &[
             OnStash::Push(0),
             OnStash::IsFull(true),
             OnStash::Len(1),
-            pop!(0),
+            OnStash::Pop(Some(0)),
             OnStash::Pop(None),
         ],
     ),
@@ -212,10 +203,10 @@ const STASHES: &[(u32, &[OnStash])] = &[
         &[
             OnStash::Push(0),
             OnStash::Push(1),
-            pop!(0),
+            OnStash::Pop(Some(0)),
             OnStash::Push(2),
-            pop!(1),
-            pop!(2),
+            OnStash::Pop(Some(1)),
+            OnStash::Pop(Some(2)),
             OnStash::Pop(None),
         ],
     ),

@@ -53,8 +53,8 @@ impl Counts {
         }
     }
 
-    pub fn are_all(&self, number: u32) -> bool {
-        self.get(0) == number && self.get(1) == number && self.get(2) == number
+    pub fn all(&self) -> [u32; 3] {
+        [self.get(0), self.get(1), self.get(2)]
     }
 
     /// The number at a place, or 0 if there is no such place.

@@ -30,14 +30,14 @@ impl Ledger {
         }
     }
 
-    /// Whether each call was the next one, and none waited in vain.
-    pub fn is_right(&self) -> bool {
-        self.wrong.get() == 0
+    /// How many calls were not the next one, or waited in vain.
+    pub fn wrong(&self) -> u32 {
+        self.wrong.get()
     }
 
-    /// Whether each submitter pushed this many requests, and as many of each ran.
-    pub fn has_all(&self, each: u32) -> bool {
-        self.pushed.are_all(each) && self.ran.are_all(each)
+    /// How many requests each submitter pushed, and how many of each ran.
+    pub fn calls(&self) -> ([u32; 3], [u32; 3]) {
+        (self.pushed.all(), self.ran.all())
     }
 
     fn require(&self, holds: bool) {

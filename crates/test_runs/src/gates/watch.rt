@@ -49,9 +49,9 @@ impl Watch {
         Watch::new(Held::Nobody, 0)
     }
 
-    /// Whether this many requests were pushed, and as many ran.
-    pub fn has_calls(&self, number: u32) -> bool {
-        self.pushed.get() == number && self.ran.get() == number
+    /// How many requests were pushed, and how many ran.
+    pub fn calls(&self) -> (u32, u32) {
+        (self.pushed.get(), self.ran.get())
     }
 
     /// How many phases were entered, from phase 0 on.

@@ -33,7 +33,6 @@ pub struct OwnServer<I: Inbox> {
 
 impl<I: Inbox> Model for OwnServer<I> {
     ghost use Rattle.std.specs.Prelude.{[]};
-    ghost use Rattle.like_board.specs.Lent.{HasLooked};
     ghost use Rattle.like_board.specs.Own.{own_place, own_view};
     ghost use Rattle.like_crew.specs.OwnServer.{OwnServerView};
     ghost use Rattle.like_crew.specs.Serving.{IsServing, server_at};

@@ -1,10 +1,17 @@
 //! The calls of lines as data, each with its answer.
 use super::LIKE;
-use like_queue::EndRefused;
 use like_requests::Request;
 
+/// What a push of the end mark answers.
+#[derive(Clone, Copy, Debug, PartialEq)]
+pub enum AtEnd {
+    Pushed,
+    Full,
+    Ended,
+}
+
 /// A call of one of the two ends of a line.
-#[derive(Clone, Copy)]
+#[derive(Clone, Copy, Debug, PartialEq)]
 pub enum Call {
     /// The next request is this.
     Next(Option<Request>),
@@ -12,14 +19,14 @@ pub enum Call {
     Push(u32, u32),
     /// A push of the next request is refused, since the line is full.
     PushFull,
-    End(Result<(), EndRefused>),
+    End(AtEnd),
     /// The end mark is pushed, and no request is after it.
     EndIsLast,
     /// The requests of these numbers are taken.
     Take(u32, u32),
     TakeEnd,
-    /// 20,000 requests go through the line, some pushes and some takes at a time.
-    GoThrough,
+    /// This many requests go through the line, some pushes and some takes at a time.
+    GoThrough(u32),
 }
 
 /// A line of a plan with this many requests, and the calls of its ends on one thread.
@@ -58,10 +65,10 @@ const CASES: &[Case] = &[
             Call::PushFull,
             Call::Take(2, 2),
             Call::Push(66, 66),
-            Call::End(Err(EndRefused::Full)),
+            Call::End(AtEnd::Full),
             Call::Take(3, 3),
             Call::EndIsLast,
-            Call::End(Err(EndRefused::Ended)),
+            Call::End(AtEnd::Ended),
             Call::Take(4, 66),
             Call::TakeEnd,
             Call::TakeEnd,
@@ -71,7 +78,11 @@ const CASES: &[Case] = &[
     Case {
         name: "is_full_and_empty_in_its_time",
         size: 20_000,
-        calls: &[Call::GoThrough, Call::End(Ok(())), Call::TakeEnd],
+        calls: &[
+            Call::GoThrough(20_000),
+            Call::End(AtEnd::Pushed),
+            Call::TakeEnd,
+        ],
     },
     Case {
         name: "takes_a_plan_of_a_million",
