@@ -1,6 +1,6 @@
 //! A batch that the end of a phase cuts short: a thread runs batches while another ends phases.
-use crate::asserts::assert_named;
-use crate::play::are_last_counts;
+use crate::asserts::assert_same;
+use crate::play::last_counts;
 use crate::scenes::UNANSWERED;
 use crate::services::opened;
 use crate::threads::{CALLS, drive};
@@ -64,8 +64,9 @@ fn a_batch_is_cut(rt: HostRuntime) -> Result<(), Fail> {
     let mut service = opened(rt.alloc(), 1, 2)?;
     let liked = cut(&rt, &mut service.seats, &mut service.driver);
     let total = liked.saturating_add(10);
-    let are_all = are_last_counts(&mut service.driver, true, [total, 20]);
+    let last = last_counts(&mut service.driver);
     drop(service);
-    assert_named(&rt, are_all, "the likes of a batch that is cut");
+    let wanted = Some((true, [total, 20]));
+    assert_same(&rt, "the likes of a batch that is cut", last, wanted);
     Ok(())
 }

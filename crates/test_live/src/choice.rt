@@ -1,7 +1,8 @@
 //! Which pages get slots: what is proposed, and what is found by samples. No contract says which pages are popular.
-use crate::asserts::{assert_named, assert_same};
+use crate::asserts::{At, assert_at, assert_same};
 use like_choice::{Choice, Kind, NoProposal, Proposal, Proposed, Sampler, Samples, Slots};
 use std::alloc::AllocError;
+use std::process::Abort;
 
 // How many pages the drawn services have.
 const PAGES: u32 = 1_000_000;
@@ -136,23 +137,32 @@ fn is_in(slots: &Slots, page: u32) -> bool {
     false
 }
 
-// Whether the first slots have these pages, and these slots are in use.
-fn are_slots(slots: &Slots, pages: &[u32], bits: u64) -> bool {
-    slots.pages().starts_with(pages) && slots.bits() == bits
+// Asserts that the first slots have these pages, and that these slots are in use.
+fn assert_slots(rt: &impl Abort, name: &str, slots: &Slots, pages: &[u32], bits: u64) {
+    for (step, page) in pages.iter().enumerate() {
+        let came = slots.pages().get(step).copied();
+        let at = At {
+            name,
+            part: 0,
+            step,
+        };
+        assert_at(rt, at, came, Some(*page));
+    }
+    assert_same(rt, name, slots.bits(), bits);
 }
 
 #[test]
 fn slots_of_a_proposal(rt: HostRuntime) {
     // The factor is that of buckets by the page modulo 1,024.
     let mut slots = Slots::new(1 << 22, 5_000, &[7]);
-    assert_named(&rt, are_slots(&slots, &[7], 1), "a marked page");
+    assert_slots(&rt, "a marked page", &slots, &[7], 1);
     // 1,031 has the bucket of 7, 1,034 that of 10, and there are no pages from 5,000 on.
     slots.choose(&[10, 1_031, 1_034, 5_000, 20, 10]);
-    assert_named(&rt, are_slots(&slots, &[7, 10, 20], 7), "the first choice");
+    assert_slots(&rt, "the first choice", &slots, &[7, 10, 20], 7);
     slots.choose(&[30, 20]);
-    assert_named(&rt, are_slots(&slots, &[7, 30, 20], 7), "the second choice");
+    assert_slots(&rt, "the second choice", &slots, &[7, 30, 20], 7);
     slots.choose(&[]);
-    assert_named(&rt, slots.bits() == 1, "a choice of no page");
+    assert_same(&rt, "a choice of no page", slots.bits(), 1);
 }
 
 #[test]
@@ -162,10 +172,10 @@ fn proposals_that_are_set(rt: HostRuntime) {
     let mut proposed = Proposed::new();
     proposed.set(&[3, 1, 2]);
     proposed.propose(&slots, &mut proposal);
-    let is_set = proposal.pages() == [3, 1, 2].as_slice();
-    assert_named(&rt, is_set, "what was set");
+    let wanted = [3, 1, 2];
+    assert_same(&rt, "what was set", proposal.pages(), wanted.as_slice());
     NoProposal.propose(&slots, &mut proposal);
-    assert_named(&rt, proposal.pages().is_empty(), "no proposal");
+    assert_same(&rt, "pages of no proposal", proposal.pages().len(), 0);
 }
 
 // A seat that only samples its likes.
@@ -279,27 +289,27 @@ fn likes_any(drawn: &mut Drawn, seat: &mut Sampled) {
     }
 }
 
-// Whether no page is proposed in twelve choices.
-fn proposes_none(samples: &mut Samples, seat: &mut Sampled) -> bool {
+// The first of twelve choices in which a page is proposed, and the page, if there is one.
+fn first_proposed(samples: &mut Samples, seat: &mut Sampled) -> Option<(u32, u32)> {
     let mut drawn = Drawn { state: 2 };
     let slots = Slots::new(1 << 22, PAGES, &[]);
     let mut proposal = Proposal::new();
-    for _ in 0..12u32 {
+    for choice in 0..12u32 {
         likes_any(&mut drawn, seat);
         samples.propose(&slots, &mut proposal);
-        if !proposal.pages().is_empty() {
-            return false;
+        if let Some(page) = proposal.pages().first() {
+            return Some((choice, *page));
         }
     }
-    true
+    None
 }
 
 #[test]
 fn pages_that_are_alike_are_not_popular(rt: HostRuntime) -> Result<(), AllocError> {
     let mut samples = Samples::new(rt.alloc(), 1, 1)?;
     let mut seat = Sampled::new(samples.sampler(0)?);
-    let is_none = proposes_none(&mut samples, &mut seat);
-    assert_named(&rt, is_none, "pages that are alike");
+    let proposed = first_proposed(&mut samples, &mut seat);
+    assert_same(&rt, "pages that are alike", proposed, None);
     Ok(())
 }
 
@@ -336,7 +346,7 @@ fn new_pages_find_room(rt: HostRuntime) -> Result<(), AllocError> {
     samples_many(&mut samples, &mut sampler, &slots);
     let proposal = proposed_then(&mut samples, &mut sampler, &slots);
     assert_same(&rt, "pages found", proposal.pages().len(), 20);
-    let are_popular = proposal.pages().iter().all(|page| *page < 20);
-    assert_named(&rt, are_popular, "the pages with 12 samples");
+    let other = proposal.pages().iter().position(|page| *page >= 20);
+    assert_same(&rt, "a page without 12 samples", other, None);
     Ok(())
 }

@@ -3,7 +3,7 @@ ghost use Rattle.like_live.specs.Driver.{IsSameDriver};
 ghost use Rattle.like_live.specs.LiveView.{IsSameSeat};
 ghost use Rattle.like_live.specs.Service.{AreItsSeats};
 
-use crate::asserts::assert_named;
+use crate::asserts::assert_same;
 use crate::services::{closed, opened};
 use crate::threads::works;
 use like_board::SharedPost;
@@ -17,18 +17,16 @@ use std::thread::Threads;
 fn drives(rt: &impl Abort, driver: &mut Driver<Guided>, wanted: DriverAnswer)
     ensures { IsSameDriver driver.old driver.new }
 {
-    assert_named(
-        rt,
-        driver.turn(End::IfItServes) == wanted,
-        "a driver's turn",
-    );
+    let answer = driver.turn(End::IfItServes);
+    assert_same(rt, "a driver's turn", answer, wanted);
 }
 
 // Answers a phase that ends.
 fn answers(rt: &impl Abort, seat: &mut LiveSeat<SharedPost>)
     ensures { IsSameSeat seat.old seat.new }
 {
-    assert_named(rt, seat.turn() == TurnAnswer::Between, "a seat's turn");
+    let answer = seat.turn();
+    assert_same(rt, "a seat's turn", answer, TurnAnswer::Between);
 }
 
 // Ends a phase, which both seats answer, and releases the next.
@@ -52,13 +50,15 @@ fn change(
 pub fn likes(rt: &impl Abort, seat: &mut LiveSeat<SharedPost>, user: u32)
     ensures { IsSameSeat seat.old seat.new }
 {
-    assert_named(rt, seat.like(user, 0) == LikeAnswer::Liked, "a like");
+    let answer = seat.like(user, 0);
+    assert_same(rt, "a like", answer, LikeAnswer::Liked);
 }
 
 fn retires(rt: &impl Abort, seat: &mut LiveSeat<SharedPost>)
     ensures { IsSameSeat seat.old seat.new }
 {
-    assert_named(rt, seat.retire() == TurnAnswer::Gone, "a seat that retires");
+    let answer = seat.retire();
+    assert_same(rt, "a seat that retires", answer, TurnAnswer::Gone);
 }
 
 // Two split phases with likes of both seats. Then both retire.
@@ -131,6 +131,6 @@ pub fn closes(
 #[test]
 fn closes_a_service(rt: HostRuntime) -> Result<(), Fail> {
     let end = closes(&rt, opened(rt.alloc(), 2, 2)?, Host::Alone);
-    assert_named(&rt, end == (true, [13, 20]), "the end of a service");
+    assert_same(&rt, "the end of a service", end, (true, [13, 20]));
     Ok(())
 }

@@ -1,6 +1,6 @@
 //! Which pages get slots by themselves, since seats store samples and the driver's choice reads them. No clause says
 //! which. Each scene is a service's calls in order.
-use crate::asserts::{assert_named, assert_same};
+use crate::asserts::{At, assert_at, assert_named};
 use crate::services::open;
 use like_board::SharedPost;
 use like_choice::Guided;
@@ -330,22 +330,22 @@ fn opening_of(alloc: Global, scene: &Scene) -> Result<Opening, AllocError> {
 // Makes a request, and asserts its answer.
 fn asks(
     rt: &impl Abort,
-    name: &str,
+    at: At<'_>,
     seat: &mut LiveSeat<SharedPost>,
     user: u32,
     does: Does,
     page: u32,
 ) {
     match does {
-        Does::Likes => assert_same(rt, name, seat.like(user, page), LikeAnswer::Liked),
-        Does::Waits => assert_same(rt, name, seat.look(user, page, 0), LookAnswer::Waits),
+        Does::Likes => assert_at(rt, at, seat.like(user, page), LikeAnswer::Liked),
+        Does::Waits => assert_at(rt, at, seat.look(user, page, 0), LookAnswer::Waits),
         Does::Sees => {
             let is_seen = matches!(seat.look(user, page, 0), LookAnswer::Seen(_));
-            assert_same(rt, name, is_seen, true);
+            assert_at(rt, at, is_seen, true);
         }
         Does::Glances => {
             let is_seen = matches!(seat.glance(user, page), GlanceAnswer::Seen(_));
-            assert_same(rt, name, is_seen, true);
+            assert_at(rt, at, is_seen, true);
         }
     }
 }
@@ -353,7 +353,7 @@ fn asks(
 // Makes a user's request so many times. Each user has a seat for itself.
 fn repeats(
     rt: &impl Abort,
-    name: &str,
+    at: At<'_>,
     seats: &mut [LiveSeat<SharedPost>],
     user: u32,
     does: Does,
@@ -362,60 +362,60 @@ fn repeats(
 ) {
     assert_named(rt, (user as usize) < seats.len(), "a seat of the user");
     for _ in 0..times {
-        asks(rt, name, &mut seats[user as usize], user, does, page);
+        asks(rt, at, &mut seats[user as usize], user, does, page);
     }
 }
 
 // User 0 likes each page so many times.
-fn likes_all(rt: &impl Abort, name: &str, seats: &mut [LiveSeat<SharedPost>], times: u32) {
+fn likes_all(rt: &impl Abort, at: At<'_>, seats: &mut [LiveSeat<SharedPost>], times: u32) {
     for _ in 0..times {
         for page in 0..1_000 {
-            repeats(rt, name, seats, 0, Does::Likes, page, 1);
+            repeats(rt, at, seats, 0, Does::Likes, page, 1);
         }
     }
 }
 
 // Each of 64 users likes the page with its own number.
-fn likes_own(rt: &impl Abort, name: &str, seats: &mut [LiveSeat<SharedPost>], times: u32) {
+fn likes_own(rt: &impl Abort, at: At<'_>, seats: &mut [LiveSeat<SharedPost>], times: u32) {
     for user in 0..64 {
-        repeats(rt, name, seats, user, Does::Likes, user, times);
+        repeats(rt, at, seats, user, Does::Likes, user, times);
     }
 }
 
 // All seats answer the end of a phase.
-fn answer_all(rt: &impl Abort, name: &str, seats: &mut [LiveSeat<SharedPost>]) {
+fn answer_all(rt: &impl Abort, at: At<'_>, seats: &mut [LiveSeat<SharedPost>]) {
     for seat in seats {
-        assert_same(rt, name, seat.turn(), TurnAnswer::Between);
+        assert_at(rt, at, seat.turn(), TurnAnswer::Between);
     }
 }
 
 // The end of a phase was announced. All seats answer, and the next is released.
-fn releases(rt: &impl Abort, name: &str, service: &mut Service<Guided>) {
-    answer_all(rt, name, &mut service.seats);
+fn releases(rt: &impl Abort, at: At<'_>, service: &mut Service<Guided>) {
+    answer_all(rt, at, &mut service.seats);
     let released = service.driver.turn(End::No);
-    assert_same(rt, name, released, DriverAnswer::Released);
+    assert_at(rt, at, released, DriverAnswer::Released);
 }
 
-fn changes(rt: &impl Abort, name: &str, service: &mut Service<Guided>, end: End) {
+fn changes(rt: &impl Abort, at: At<'_>, service: &mut Service<Guided>, end: End) {
     let announced = service.driver.turn(end);
-    assert_same(rt, name, announced, DriverAnswer::Announced);
-    releases(rt, name, service);
+    assert_at(rt, at, announced, DriverAnswer::Announced);
+    releases(rt, at, service);
 }
 
 // Page 500 is split, and a user's seat has room for 8. With 3 looks that wait the phase goes on, with 4 it ends. Then
 // comes the next split phase.
-fn ends_by(rt: &impl Abort, name: &str, service: &mut Service<Guided>, user: u32) {
-    repeats(rt, name, &mut service.seats, user, Does::Waits, 500, 3);
+fn ends_by(rt: &impl Abort, at: At<'_>, service: &mut Service<Guided>, user: u32) {
+    repeats(rt, at, &mut service.seats, user, Does::Waits, 500, 3);
     let goes_on = service.driver.turn(End::No);
-    assert_same(rt, name, goes_on, DriverAnswer::Running);
-    repeats(rt, name, &mut service.seats, user, Does::Waits, 500, 1);
-    changes(rt, name, service, End::No);
-    changes(rt, name, service, End::IfItServes);
+    assert_at(rt, at, goes_on, DriverAnswer::Running);
+    repeats(rt, at, &mut service.seats, user, Does::Waits, 500, 1);
+    changes(rt, at, service, End::No);
+    changes(rt, at, service, End::IfItServes);
 }
 
-fn ends_by_each(rt: &impl Abort, name: &str, service: &mut Service<Guided>) {
+fn ends_by_each(rt: &impl Abort, at: At<'_>, service: &mut Service<Guided>) {
     for user in 0..64 {
-        ends_by(rt, name, service, user);
+        ends_by(rt, at, service, user);
     }
 }
 
@@ -431,32 +431,32 @@ fn split_pages(alloc: Global, service: &Service<Guided>) -> Result<Vec<u32>, All
 fn splits(
     rt: &impl Abort,
     alloc: Global,
-    name: &str,
+    at: At<'_>,
     service: &Service<Guided>,
     wanted: &[u32],
 ) -> Result<(), AllocError> {
     let split = split_pages(alloc, service)?;
-    assert_same(rt, name, &split[..], wanted);
+    assert_at(rt, at, &split[..], wanted);
     Ok(())
 }
 
 fn plays(
     rt: &impl Abort,
     alloc: Global,
-    name: &str,
+    at: At<'_>,
     service: &mut Service<Guided>,
     part: Part,
 ) -> Result<(), AllocError> {
     match part {
         Part::By(user, does, page, times) => {
-            repeats(rt, name, &mut service.seats, user, does, page, times);
+            repeats(rt, at, &mut service.seats, user, does, page, times);
         }
-        Part::LikesAll(times) => likes_all(rt, name, &mut service.seats, times),
-        Part::LikesOwn(times) => likes_own(rt, name, &mut service.seats, times),
-        Part::Turns(end, wanted) => assert_same(rt, name, service.driver.turn(end), wanted),
-        Part::Changes(end) => changes(rt, name, service, end),
-        Part::EndsByEach => ends_by_each(rt, name, service),
-        Part::Splits(wanted) => splits(rt, alloc, name, service, wanted)?,
+        Part::LikesAll(times) => likes_all(rt, at, &mut service.seats, times),
+        Part::LikesOwn(times) => likes_own(rt, at, &mut service.seats, times),
+        Part::Turns(end, wanted) => assert_at(rt, at, service.driver.turn(end), wanted),
+        Part::Changes(end) => changes(rt, at, service, end),
+        Part::EndsByEach => ends_by_each(rt, at, service),
+        Part::Splits(wanted) => splits(rt, alloc, at, service, wanted)?,
         Part::Proposes(page) => service.driver.propose(&[page]),
     }
     Ok(())
@@ -467,11 +467,12 @@ fn plays_all(
     rt: &impl Abort,
     alloc: Global,
     name: &str,
+    part: usize,
     service: &mut Service<Guided>,
-    parts: &[Part],
+    steps: &[Part],
 ) -> Result<(), AllocError> {
-    for part in parts {
-        plays(rt, alloc, name, service, *part)?;
+    for (step, does) in steps.iter().enumerate() {
+        plays(rt, alloc, At { name, part, step }, service, *does)?;
     }
     Ok(())
 }
@@ -482,9 +483,9 @@ fn plays_scene(
     scene: &Scene,
     service: &mut Service<Guided>,
 ) -> Result<(), AllocError> {
-    for (times, parts) in scene.parts {
+    for (part, (times, steps)) in scene.parts.iter().enumerate() {
         for _ in 0..*times {
-            plays_all(rt, alloc, scene.name, service, parts)?;
+            plays_all(rt, alloc, scene.name, part, service, steps)?;
         }
     }
     Ok(())

@@ -2,7 +2,7 @@
 ghost use Rattle.std.specs.Prelude.{IfOk};
 ghost use Rattle.like_live.specs.Service.{AreItsSeats};
 
-use crate::asserts::assert_named;
+use crate::asserts::{At, assert_at, assert_named, assert_same};
 use crate::play::plays;
 use crate::scenes::{Calls, announces, answers_and_releases, likes_the_last};
 use like_choice::Guided;
@@ -172,10 +172,15 @@ fn all_wrong() -> &'static [(Numbers, OpenError)] {
 
 #[test]
 fn refuses_wrong_numbers(rt: HostRuntime) -> Result<(), Fail> {
-    for (numbers, wrong) in all_wrong() {
+    for (step, (numbers, wrong)) in all_wrong().iter().enumerate() {
         let opening = opening_of(rt.alloc(), numbers)?;
         let told = Service::open(rt.alloc(), &opening).err();
-        assert_named(&rt, told == Some(*wrong), "a wrong number");
+        let at = At {
+            name: "wrong numbers",
+            part: 0,
+            step,
+        };
+        assert_at(&rt, at, told, Some(*wrong));
     }
     Ok(())
 }
@@ -206,19 +211,19 @@ fn all_at_limits() -> &'static [Numbers] {
     &AT_LIMITS
 }
 
-// Whether a service has as many seats and pages as it was opened with.
-fn has_its_numbers(service: &Service<Guided>, numbers: &Numbers) -> bool {
-    service.seats.len() == numbers.seats as usize
-        && service.driver.pages() as usize == numbers.counts.len()
+// How many seats and pages a service has.
+fn seats_and_pages(service: &Service<Guided>) -> (usize, usize) {
+    (service.seats.len(), service.driver.pages() as usize)
 }
 
 #[test]
 fn opens_at_each_limit(rt: HostRuntime) -> Result<(), Fail> {
     for numbers in all_at_limits() {
         let service = opened_with(rt.alloc(), numbers)?;
-        let has_numbers = has_its_numbers(&service, numbers);
+        let came = seats_and_pages(&service);
         drop(service);
-        assert_named(&rt, has_numbers, "its seats and pages");
+        let wanted = (numbers.seats as usize, numbers.counts.len());
+        assert_same(&rt, "its seats and pages", came, wanted);
     }
     Ok(())
 }
@@ -246,8 +251,10 @@ fn opens_with_marks(alloc: Global, many: u32) -> Result<bool, Fail> {
 
 #[test]
 fn opens_with_64_marks_at_most(rt: HostRuntime) -> Result<(), Fail> {
-    assert_named(&rt, opens_with_marks(rt.alloc(), 64)?, "64 marks");
-    assert_named(&rt, !opens_with_marks(rt.alloc(), 65)?, "65 marks");
+    let by_64 = opens_with_marks(rt.alloc(), 64)?;
+    assert_same(&rt, "64 marks", by_64, true);
+    let by_65 = opens_with_marks(rt.alloc(), 65)?;
+    assert_same(&rt, "65 marks", by_65, false);
     Ok(())
 }
 
@@ -272,7 +279,7 @@ fn opened_with_many(alloc: Global) -> Result<Service<Guided>, Fail> {
 #[test]
 fn opens_a_hundred_thousand_pages(rt: HostRuntime) -> Result<(), Fail> {
     let mut service = opened_with_many(rt.alloc())?;
-    assert_named(&rt, service.driver.pages() == 100_000, "100,000 pages");
+    assert_same(&rt, "pages", service.driver.pages(), 100_000);
     plays(&rt, &mut service, likes_the_last());
     drop(service);
     Ok(())
@@ -297,7 +304,7 @@ pub fn closed(rt: &impl Abort, service: Service<Guided>) -> (bool, [u64; 2])
 #[test]
 fn closes_no_running_service(rt: HostRuntime) -> Result<(), Fail> {
     let end = closed(&rt, opened(rt.alloc(), 2, 2)?);
-    assert_named(&rt, end == (false, [0, 0]), "a service that goes on");
+    assert_same(&rt, "a service that goes on", end, (false, [0, 0]));
     Ok(())
 }
 
@@ -306,8 +313,8 @@ fn closes_no_running_service(rt: HostRuntime) -> Result<(), Fail> {
 fn tells_the_seat_of_a_user(rt: HostRuntime) -> Result<(), Fail> {
     let mut opening = opening_of(rt.alloc(), &PLAIN)?;
     opening.seats = 2;
-    assert_named(&rt, opening.seat_of(3) == 1, "the seat of user 3");
-    assert_named(&rt, opening.seat_of(2) == 0, "the seat of user 2");
+    assert_same(&rt, "the seat of user 3", opening.seat_of(3), 1);
+    assert_same(&rt, "the seat of user 2", opening.seat_of(2), 0);
     Ok(())
 }
 
@@ -317,9 +324,9 @@ fn for_any_thread<T: Send + Sync>(_value: &T) {}
 // Ends phase 0 of a service with one seat.
 fn ends_the_first(rt: &impl Abort, service: &mut Service<Guided>, phase: &PhaseNow) {
     plays(rt, service, announces());
-    assert_named(rt, phase.get() == 0, "the first phase");
+    assert_same(rt, "the first phase", phase.get(), 0);
     plays(rt, service, answers_and_releases());
-    assert_named(rt, phase.get() == 1, "the next phase");
+    assert_same(rt, "the next phase", phase.get(), 1);
 }
 
 // The phase of a service that ends its first one, and another owner of it, which sees that.
@@ -341,7 +348,7 @@ fn tells_the_phase_to_another_owner(rt: HostRuntime) -> Result<(), Fail> {
     drop(service);
     let (phase, other) = owners?;
     for_any_thread(&other);
-    assert_named(&rt, phase.get() == 1, "the phase");
-    assert_named(&rt, other.get() == 1, "the phase of the other owner");
+    assert_same(&rt, "the phase", phase.get(), 1);
+    assert_same(&rt, "the phase of the other owner", other.get(), 1);
     Ok(())
 }

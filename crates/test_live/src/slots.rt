@@ -1,6 +1,6 @@
 //! Which pages are split: a marked one among a million, two that a choice moves through a slot, and those that a host
 //! proposes beside a marked one.
-use crate::asserts::assert_named;
+use crate::asserts::{assert_named, assert_same};
 use crate::play::plays;
 use crate::scenes::{asks_when_due, changes, live_moves_calls, live_slots_calls};
 use crate::services::open;
@@ -43,7 +43,8 @@ fn write_last<C: Choice>(rt: &impl Abort, driver: &mut Driver<C>, counts: &mut [
         driver.has_pages(0, counts.len()),
         "as many pages as counts",
     );
-    assert_named(rt, driver.last_counts(0, counts), "the last counts");
+    let are_written = driver.last_counts(0, counts);
+    assert_same(rt, "the last counts are written", are_written, true);
 }
 
 // How many pages have likes.
@@ -57,9 +58,10 @@ fn liked(counts: &[u64]) -> usize {
     liked
 }
 
-// Whether page 999,999 has three likes and page 5 has two, and no other page has any.
-fn are_likes_of_two(counts: &[u64]) -> bool {
-    counts.len() > 999_999 && counts[999_999] == 3 && counts[5] == 2 && liked(counts) == 2
+// The likes of page 999,999 and of page 5, and how many pages have likes.
+fn likes_of_two(counts: &[u64]) -> (Option<u64>, Option<u64>, usize) {
+    let last = counts.get(999_999).copied();
+    (last, counts.get(5).copied(), liked(counts))
 }
 
 #[test]
@@ -69,7 +71,8 @@ fn live_slots(rt: HostRuntime) -> Result<(), Fail> {
     plays(&rt, &mut service, live_slots_calls());
     write_last(&rt, &mut service.driver, &mut counts);
     drop(service);
-    assert_named(&rt, are_likes_of_two(&counts), "live_slots");
+    let likes = likes_of_two(&counts);
+    assert_same(&rt, "live_slots", likes, (Some(3), Some(2), 2));
     Ok(())
 }
 
@@ -98,7 +101,8 @@ fn live_moves(rt: HostRuntime) -> Result<(), Fail> {
     let mut counts = [0; 10];
     write_last(&rt, &mut service.driver, &mut counts);
     drop(service);
-    assert_named(&rt, counts == [0, 0, 0, 0, 0, 0, 0, 4, 3, 0], "live_moves");
+    let wanted = [0, 0, 0, 0, 0, 0, 0, 4, 3, 0];
+    assert_same(&rt, "live_moves", counts, wanted);
     Ok(())
 }
 
@@ -110,29 +114,29 @@ fn asks_its_choice_when_due(rt: HostRuntime) -> Result<(), Fail> {
     Ok(())
 }
 
-// Whether exactly these pages are split, or were in the last split phase.
-fn are_split<C: Choice>(driver: &Driver<C>, wanted: &[u32]) -> bool {
+// Asserts that exactly these pages are split, or were in the last split phase.
+fn assert_split<C: Choice>(rt: &impl Abort, case: &str, driver: &Driver<C>, wanted: &[u32]) {
     let mut pages = [0; 64];
     let many = driver.split_pages(&mut pages);
-    many <= pages.len() && pages[..many] == wanted[..]
+    assert_same(rt, case, &pages[..many.min(64)], wanted);
 }
 
 // A change to a joined phase and one to a split phase. Exactly these pages are split in that.
-fn changes_to(rt: &impl Abort, service: &mut Service<Guided>, wanted: &[u32]) {
+fn changes_to(rt: &impl Abort, case: &str, service: &mut Service<Guided>, wanted: &[u32]) {
     plays(rt, service, changes());
     plays(rt, service, changes());
-    assert_named(rt, are_split(&service.driver, wanted), "the split pages");
+    assert_split(rt, case, &service.driver, wanted);
 }
 
 // Pages 3 and 4 are proposed, and then none.
 fn proposes_beside_a_mark(rt: &impl Abort, service: &mut Service<Guided>) {
     service.driver.propose(&[3, 4]);
     plays(rt, service, changes());
-    assert_named(rt, are_split(&service.driver, &[5]), "the marked page");
-    changes_to(rt, service, &[5, 3, 4]);
-    changes_to(rt, service, &[5, 3, 4]);
+    assert_split(rt, "the marked page", &service.driver, &[5]);
+    changes_to(rt, "what is proposed", service, &[5, 3, 4]);
+    changes_to(rt, "what is still proposed", service, &[5, 3, 4]);
     service.driver.propose(&[]);
-    changes_to(rt, service, &[5]);
+    changes_to(rt, "none is proposed", service, &[5]);
 }
 
 // What is proposed is split beside what is marked, from the end of a split phase on, until the host proposes nothing.

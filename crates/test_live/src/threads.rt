@@ -3,7 +3,7 @@
 ghost use Rattle.like_live.specs.Driver.{IsSameDriver};
 ghost use Rattle.like_live.specs.LiveView.{IsSameSeat};
 
-use crate::asserts::assert_named;
+use crate::asserts::assert_same;
 use crate::ends::{Host, closes};
 use crate::services::opened;
 use like_board::SharedPost;
@@ -43,9 +43,10 @@ impl Done {
         }
     }
 
-    // Whether it made all its likes, and each look that waited was found in its turn.
-    fn is_all(&self) -> bool {
-        self.liked == LIKES && self.found == self.waited && self.in_turn
+    // Asserts that it made all its likes, and that each look that waited was found in its turn.
+    fn assert_all(&self, rt: &impl Abort, case: &str) {
+        let came = (self.liked, self.found, self.in_turn);
+        assert_same(rt, case, came, (LIKES, self.waited, true));
     }
 
     // Takes a found look, if there is one.
@@ -121,13 +122,13 @@ pub fn works(
         &mut || drive(driver),
         &mut || work_both(rt, first, second),
     );
-    assert_named(rt, by_first.is_all(), "what seat 0 did");
-    assert_named(rt, by_second.is_all(), "what seat 1 did");
+    by_first.assert_all(rt, "what seat 0 did");
+    by_second.assert_all(rt, "what seat 1 did");
 }
 
 #[test]
 fn live_threads(rt: HostRuntime) -> Result<(), Fail> {
     let end = closes(&rt, opened(rt.alloc(), 2, 2)?, Host::Threads);
-    assert_named(&rt, end == (true, [20_010, 20]), "the end of a service");
+    assert_same(&rt, "the end of a service", end, (true, [20_010, 20]));
     Ok(())
 }
