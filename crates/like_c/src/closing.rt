@@ -2,7 +2,7 @@
 ghost use Rattle.std.specs.Prelude.{◌≡◌, ◌≤◌, [], All, IfErr, IfOk, List, None, Some, length, map, vec_capacity};
 ghost use Rattle.like_live.specs.LiveView.{LiveView};
 ghost use Rattle.like_live.specs.Service.{AreGone, AreItsSeats, IsClosedService};
-ghost use Rattle.like_c.specs.Closes.{AreHeldBy, HoldsGone, PreventEnd, PreventsEnd, home_of, live_in};
+ghost use Rattle.like_c.specs.Closes.{AreHeldBy, HoldsGone, PreventEnd, PreventsEnd, home_of};
 
 use crate::opened::{BoxedSeat, Opened, live_of};
 use crate::seat_handle::SeatHandle;

@@ -1,4 +1,4 @@
-ghost use Rattle.std.specs.Prelude.{◌≡◌, ◌≢◌, [], IfOk, take};
+ghost use Rattle.std.specs.Prelude.{◌≡◌, [], IfOk, take};
 ghost use Rattle.like_limits.specs.Limits.{hot_pages};
 
 use crate::choice::Choice;

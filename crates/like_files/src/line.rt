@@ -1,5 +1,5 @@
 //! The line of a fault.
-ghost use Rattle.std.specs.Prelude.{◌≡◌, ◌≢◌, None, IsTrue, codes, option_map};
+ghost use Rattle.std.specs.Prelude.{◌≡◌, None, IsTrue, option_map};
 ghost use Rattle.like_files.specs.Lines.{ShowsLine, file_of, own_line};
 
 use crate::fault::DriverFault;

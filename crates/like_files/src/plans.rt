@@ -1,4 +1,4 @@
-ghost use Rattle.std.specs.Prelude.{◌≡◌, ◌-◌, ◌<◌, ◌^◌, IfErr, MatchResult, Ok, OnOk, length, map, min};
+ghost use Rattle.std.specs.Prelude.{◌≡◌, ◌-◌, ◌<◌, IfErr, MatchResult, Ok, OnOk, length, map, min};
 ghost use Rattle.like_records.specs.Reading.{ReadFailed};
 ghost use Rattle.like_files.specs.FailedReads.{ReadsRequests};
 ghost use Rattle.like_files.specs.Inputs.{GivesPlan, RefusesPlan};

@@ -1,6 +1,5 @@
 //! The name that means standard input.
-ghost use Rattle.std.specs.Prelude.{◌≡◌, codes};
-ghost use Rattle.std.specs.Str.{bytes_eq};
+ghost use Rattle.std.specs.Prelude.{◌≡◌};
 ghost use Rattle.like_files.specs.StandardInput.{is_input, names_of, names_twice};
 
 use like_command::Options;

@@ -3,7 +3,7 @@ ghost use Rattle.like_program.specs.Fault.{of_files, program_status, ShowsProgra
 
 use like_command::{OUT_OF_MEMORY, Options, ParseFault};
 use like_files::{DriverFault, WRITE_FAILED};
-use std::alloc::{AllocError, AllocFailed};
+use std::alloc::AllocError;
 use std::io::Write;
 use thiserror::Error;
 

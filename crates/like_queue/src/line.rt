@@ -1,4 +1,4 @@
-ghost use Rattle.std.specs.Prelude.{◌≡◌, ◌≤◌, [], IfOk, length};
+ghost use Rattle.std.specs.Prelude.{◌≡◌, ◌≤◌, IfOk, length};
 ghost use Rattle.crossbeam_queue.specs.Passes.{IsPassOf, IsSamePass, view as known_by};
 ghost use Rattle.like_limits.specs.Limits.{max_requests};
 ghost use Rattle.like_queue.specs.declared.known.Role.TheVariants.{Sends, Takes};

@@ -17,7 +17,7 @@ pub struct ListInbox {
 }
 
 impl Model for ListInbox {
-    ghost use Rattle.std.specs.Prelude.{◌≤◌, ◌+◌, length};
+    ghost use Rattle.std.specs.Prelude.{◌≤◌, length};
     ghost use Rattle.like_limits.specs.Limits.{max_requests};
     ghost use Rattle.like_queue.specs.Inbox.{Inbox, item_count};
 

@@ -1,4 +1,4 @@
-ghost use Rattle.std.specs.Prelude.{◌≡◌, ◌≤◌, ◌%◌, ◌==◌, false, IfErr, IfOk, length, min};
+ghost use Rattle.std.specs.Prelude.{◌≡◌, ◌%◌, ◌==◌, false, IfErr, IfOk, length, min};
 ghost use Rattle.like_board.specs.Led.{IsLedBy, ShowsTold, led};
 ghost use Rattle.like_limits.specs.Limits.{hot_pages};
 ghost use Rattle.like_core.specs.OpeningLimits.{has_slots};

@@ -1,11 +1,6 @@
-ghost use Rattle.std.specs.Prelude.{◌≡◌, ◌≤◌, ◌↔◌, IfErr, IfOk, IsTrue};
+ghost use Rattle.std.specs.Prelude.{◌≡◌, ◌↔◌, IsTrue};
 ghost use Rattle.like_core.specs.declared.worker_state.WorkerState.TheVariants.{Gone};
-ghost use Rattle.like_limits.specs.Limits.{max_stash};
-ghost use Rattle.like_core.specs.OpeningLimits.{AreLimits};
-ghost use Rattle.like_core.specs.Post.{IsFresh, pages_of};
-ghost use Rattle.like_seat.specs.Kept.{IsOfRun};
 ghost use Rattle.like_seat.specs.StationView.{IsStation, likes_of, phase_at};
-ghost use Rattle.like_seat.specs.Steps.{IsNewStation};
 
 mod answers;
 mod looks;

@@ -1,4 +1,4 @@
-ghost use Rattle.std.specs.Prelude.{◌≡◌, ◌↔◌, IfNone, IfSome, IsTrue};
+ghost use Rattle.std.specs.Prelude.{◌↔◌, IfNone, IfSome, IsTrue};
 ghost use Rattle.like_tables.specs.Factors.{AreApart, IsFirstApart, NoneParts, max_tries};
 
 use like_limits::bucket;

@@ -1,4 +1,4 @@
-ghost use Rattle.std.specs.Prelude.{◌≡◌, ◌<◌, ◌≤◌, ◌^◌, ◌↔◌, ℕ, List, ◌∷◌, [], ◌++◌, All, IfOk, IsTrue, MatchResult, Some, None, length, map, replicate};
+ghost use Rattle.std.specs.Prelude.{◌≡◌, ◌<◌, ◌≤◌, ◌^◌, ◌↔◌, ℕ, List, ◌++◌, All, IfOk, IsTrue, MatchResult, Some, None, length, map, replicate};
 ghost use Rattle.like_limits.specs.Limits.{max_submitters};
 ghost use Rattle.like_promises.specs.declared.log.Ran.{Ran};
 ghost use Rattle.like_collection.specs.CollectFaults.{IsEntryFault};

@@ -1,4 +1,4 @@
-ghost use Rattle.std.specs.Prelude.{◌≡◌, ◌≤◌, length};
+ghost use Rattle.std.specs.Prelude.{◌≤◌, length};
 ghost use Rattle.like_core.specs.WorkerState.{IsRunning};
 ghost use Rattle.like_live.specs.LikeRow.{LikesAll, RowCase};
 ghost use Rattle.like_live.specs.LiveView.{IsLive, IsSameSeat};

@@ -3,7 +3,7 @@ ghost use Rattle.like_promises.specs.Collected.{rows_of};
 ghost use Rattle.like_promises.specs.places.Places.{lists_in};
 ghost use Rattle.like_replies.specs.Output.{TellsOutput, Writes};
 ghost use Rattle.like_replies.specs.PlaceRows.{place_rows, text_of};
-ghost use Rattle.like_replies.specs.Reported.{reported, shown_of};
+ghost use Rattle.like_replies.specs.Reported.{reported};
 ghost use Rattle.like_replies.specs.Rows.{IsWritable, report_text, rows_text};
 ghost use Rattle.like_replies.specs.declared.write_fault.WriteFault.TheVariants.{Memory};
 
