@@ -1,5 +1,6 @@
 pub mod worker
 pub mod Tallying
+pub mod Steps
 pub mod coordinator
 pub mod Gathering
 pub mod LastCounts
