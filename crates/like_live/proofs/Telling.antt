@@ -128,7 +128,7 @@ finds-looks v after f =
     ∙ ap (λ xs. map look_of v.found ++ xs) (looks-found f.found ∙ ap (map look_waiting) f.order)
 
 pub merged-looks : (v : LiveView) (s : StationView Asked) → s.stash ≡ v.station.stash → looks_left (with_station v s) ≡ looks_left v
-merged-looks v s stash = ap (λ h. map look_of v.found ++ map look_waiting h.stash) stash
+merged-looks v s stash = ap (λ h. map look_of v.found ++ map look_waiting h.looks) stash
 
 works-looks : (v after : LiveView) (ending : Bool) (answer : TurnAnswer)
     → Works v ending answer after
@@ -230,7 +230,7 @@ IsQuiet-come_back v after answer whole (calls.runs s gone a back is) =
       };
       tallies = l.tallies;
       last = l.last;
-      looks = ap looks_left stash;
+      looks = ap looks_left came;
     }
 IsQuiet-come_back v after answer whole (calls.between gone a is) = subst (IsQuiet v) (sym is) (IsQuiet-same v whole)
 IsQuiet-come_back v after answer whole (calls.there here m) = IsQuiet-moves v after answer whole m
