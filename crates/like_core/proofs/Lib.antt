@@ -1,5 +1,6 @@
 pub mod word
 pub mod Sums
+pub mod Lists
 pub mod Logs
 pub mod Rows
 pub mod Updates

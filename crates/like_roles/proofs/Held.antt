@@ -28,17 +28,8 @@ use Rattle.like_roles.specs.declared.worker.judged.Judged.{Judged}
 use Rattle.like_roles.specs.worker.Judged.{IsJudged}
 use Rattle.like_roles.specs.worker.Ledger.{CanServe, HasNotedTaken, HasRoom, HasRoomForOne, HasRoomToNote, HasSubmitters, IsOwn, IsSettled, IsSound, IsTried, view_of}
 use Rattle.like_roles.specs.worker.Turns.{trying, with_taken}
+use Rattle.like_core.proofs.Lists.{first_of}
 use Rattle.like_roles.proofs.InBlocks.{runs-phase, runs-weaker}
-
--- a list whose first element is known
-pub first_of : {X : Type 0} (xs : List X) (x : X) → slice_get xs 0 ≡ Some x → xs ≡ x ∷ drop 1 xs
-first_of [] x h = cc
-first_of (y ∷ ys) x h = let e : y ≡ x = cc h in ap (λ z. z ∷ ys) e
-
--- a list with no first element
-pub none_first : {X : Type 0} (xs : List X) → slice_get xs 0 ≡ None → xs ≡ []
-none_first [] h = refl
-none_first (y ∷ ys) h = cc
 
 -- what may be stashed stays so in the same share, at a board with the same marks
 pub AreOwn-moved : (s t : StationView Held) (hs : List Held)
