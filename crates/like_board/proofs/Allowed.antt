@@ -8,7 +8,8 @@ use lib.ListN.{get_elem?}
 use Rattle.atomic_table.specs.Table.{Me, keeps, Allows, Splits, Joins}
 use Rattle.atomic_table.proofs.Lists.{set_again}
 use Rattle.like_core.specs.declared.worker_state.WorkerState.TheVariants.{Gone}
-use Rattle.like_core.specs.declared.event.Event.TheVariants.{Acknowledge, Report, Retire, Read, Hot, CoordRead, Announce, Release}
+use Rattle.like_core.specs.declared.event.Event.{Event}
+use Rattle.like_core.specs.declared.event.Event.TheVariants.{Read, Hot, CoordRead, Announce, Release}
 use Rattle.like_core.specs.declared.shown.Shown.TheVariants.{Seen, Done, Old, Count, Hot as HotShown}
 use Rattle.like_core.specs.declared.log.LogEntry.TheVariants.{Saw, Did}
 use Rattle.like_core.specs.declared.page_step.PageCall.{PageCall}
@@ -23,13 +24,13 @@ use Rattle.like_core.specs.OpeningLimits.{has_slots}
 use Rattle.like_core.specs.core.Moves.{LetsReturn, Move, comes_back, glances as glances_at, makes}
 use Rattle.like_core.specs.Slots.{IsChoice}
 use Rattle.like_core.specs.word.Forms.{WordForm, form_of}
-use Rattle.like_core.specs.Post.{MayAdd, MayRead, MayGlance, MayReadSlot, MayReadSlots, number_of, fresh, looked_at, answered, retired, returned, added, has_read, has_glanced, with_mask, with_slot, slots_read}
+use Rattle.like_core.specs.Post.{MayAdd, MayRead, MayGlance, MayReadSlot, MayReadSlots, number_of, fresh, looked_at, returned, added, has_read, has_glanced, with_mask, with_slot, slots_read}
 use Rattle.like_core.specs.PageSteps.{page_step}
-use Rattle.like_core.specs.WorkerState.{RunsJoined, RunsSplit, SawEnding, phase_of, running_sight}
+use Rattle.like_core.specs.WorkerState.{RunsSplit, phase_of, running_sight}
 use Rattle.like_core.specs.views.Views.{MayAnnounce, MayCount, MayPublish, MayPut, MayPublishSlots, MayRelease, likes_merged, adding, looked_coord, announced_coord, counted_coord, published_coord, slotted_coord, slots_put, mask_released, released_coord, made_coord, gathered_coord}
-use Rattle.like_core.specs.views.Actions.{Acknowledges, Reports, Retires, Reads, Glances, Announces, Releases}
+use Rattle.like_core.specs.views.Actions.{Reads, Glances, Announces, Releases}
 use Rattle.like_core.specs.views.Layout.{mask_place, slot_place, word_of}
-use Rattle.like_core.specs.views.Shows.{ShowsSome, FitsWorker, FitsCoord, IsEntry, IsKnown, IsStep}
+use Rattle.like_core.specs.views.Shows.{ShowsSome, IsEntry, IsKnown, IsStep}
 use Rattle.like_core.proofs.views.KeptOrder.{new_seat_keeps_order}
 use Rattle.like_core.proofs.views.Apart.{word_of-injective}
 use Rattle.like_board.specs.declared.key.Key.{Key}
@@ -38,8 +39,8 @@ use Rattle.like_board.specs.Rule.{opening_of, IsShowing}
 use Rattle.like_board.specs.Plays.{CameBack, Looked, Surveyed, phase_at, sight_at, coord_sight_at, TellsLook, TellsSurvey, TellsWorker, TellsReturn, TellsCoord, TellsAdd, TellsRead, TellsMask, TellsSlot, TellsSlots, TellsPutAt, TellsCount, OfWord}
 use Rattle.like_board.specs.Closed.{TellsLast}
 use Rattle.like_board.proofs.coordinator.Leads.{splits}
-use Rattle.like_board.proofs.worker.Moves.{known_of, no_seat}
-use Rattle.like_board.proofs.worker.WorkerSteps.{looks, acknowledges, reports, retires, returns}
+use Rattle.like_board.proofs.worker.Moves.{coord_opens, known_of, no_seat, worker_opens}
+use Rattle.like_board.proofs.worker.WorkerSteps.{PutsIn, looks, returns}
 use Rattle.like_board.proofs.coordinator.CoordSteps.{surveys, announces, releases}
 use Rattle.like_board.proofs.coordinator.Choosing.{counts, publishes, puts, publishes_slots}
 use Rattle.like_board.proofs.Tallying.{tallied_made}
@@ -47,22 +48,6 @@ use Rattle.like_board.proofs.worker.Additions.{adds}
 use Rattle.like_board.proofs.worker.Readings.{IsRead, reads, glances, reads_mask, reads_slot, reads_slots}
 use Rattle.like_board.proofs.Gathering.{gathers}
 use Rattle.like_board.proofs.LastCounts.{closes}
-
--- the opening in a worker's view is the board's
-worker_opening : (z : Opening) (words : List ℕ) (views : List View) (place : ℕ) (v : WorkerSeatView)
-    → ShowsSome z words views
-    → get_elem? views place ≡ some (Worker v)
-    → v.opening ≡ z
-worker_opening z words views place v some_state at =
-    let fits : FitsWorker z some_state.state v = some_state.shows.seats.each place (Worker v) at in fits.opening
-
--- the opening in the coordinator's view is the board's
-coord_opening : (z : Opening) (words : List ℕ) (views : List View) (place : ℕ) (c : CoordSeatView)
-    → ShowsSome z words views
-    → get_elem? views place ≡ some (Coord c)
-    → c.opening ≡ z
-coord_opening z words views place c some_state at =
-    let fits : FitsCoord z some_state.state c = some_state.shows.seats.each place (Coord c) at in fits.seats.opening
 
 -- a word that is stored as it was, and a view that is left, change nothing
 unchanged : (z : Opening) (words : List ℕ) (views : List View) (id word : ℕ) (v : View)
@@ -81,7 +66,7 @@ looking {S} key slots id me is there = λ st shows _ at _.
     let z = opening_of key in
     let v : WorkerSeatView = worker_view_of me.0 in
     let here : get_elem? st.views id ≡ some (Worker v) = at ∙ ap (λ (m : Me S View). some m.0) is in
-    let same = worker_opening z st.words st.views id v shows here in
+    let same = worker_opens z st.words st.views id v shows here in
     let r = looks z st.words st.views id v shows here there in
     let found : ℕ = get_or st.words 0 0 in
     let number : ℕ = length shows.log in
@@ -108,96 +93,33 @@ put_is form of_board word more puts same more_is =
     let there : more ≡ puts (form_of of_board) = more_is ∙ ap (λ (f : Form). puts (form_of f)) same in
     λ m. (form_of (same m)).put word (there m)
 
-pub acknowledging : {S : Type 0} (key : Key) (slots id : ℕ) (me : Me S View) (form : Form) (more : ℕ)
+-- the rule allows a worker to put into the phase word what is an event of its
+pub putting_in : {S : Type 0} (key : Key) (slots id : ℕ) (me : Me S View) (form : Form) (more : ℕ)
+    {puts : WordForm → ℕ → ℕ} {event : ℕ → Event} {next : WorkerSeatView → WorkerSeatView}
+    → PutsIn puts event next (worker_view_of me.0)
     → form ≡ (worker_view_of me.0).opening.limits.form
-    → more ≡ (form_of form).answer (worker_view_of me.0).worker
+    → more ≡ puts (form_of form) (worker_view_of me.0).worker
     → me ≡ (Worker (worker_view_of me.0), [])
-    → RunsJoined (worker_view_of me.0).state
-    → SawEnding (worker_view_of me.0).last
     → Allows (IsShowing key) slots id me 0 (λ n. (form_of form).put n more)
-    (λ found after. TellsWorker Acknowledges answered me.0 after.0 × (after.1 ≡ []))
-acknowledging {S} key slots id me form more form_is more_is is joined saw = λ st shows _ at _.
+    (λ found after. TellsWorker (λ v w. IsStep v.opening (event v.worker) Done (Worker v) (Worker w)) next me.0 after.0
+    × (after.1 ≡ []))
+putting_in {S} key slots id me form more {puts} {event} {next} does form_is more_is is = λ st shows _ at _.
     let z = opening_of key in
     let v : WorkerSeatView = worker_view_of me.0 in
+    let w : View = Worker (next v) in
     let here : get_elem? st.views id ≡ some (Worker v) = at ∙ ap (λ (m : Me S View). some m.0) is in
-    let same = worker_opening z st.words st.views id v shows here in
+    let same = worker_opens z st.words st.views id v shows here in
     let formed : form ≡ z.limits.form = form_is ∙ ap (λ (y : Opening). y.limits.form) same in
-    let r = acknowledges z st.words st.views id v shows here joined saw in (
-      Worker (answered v),
+    let r = does.each z st.words st.views id shows here in (
+      w,
       keeps,
       tt,
-      subst (λ (n : ℕ). ShowsSome z (slice_set st.words 0 n)
-          (slice_set st.views id (Worker (answered v))))
-          (sym (put_is form z.limits.form (get_or st.words 0 0) more (λ f. f.answer v.worker) formed more_is)) r.1,
+      subst (λ (n : ℕ). ShowsSome z (slice_set st.words 0 n) (slice_set st.views id w))
+          (sym (put_is form z.limits.form (get_or st.words 0 0) more (λ f. puts f v.worker) formed more_is)) r.1,
       (
         record {
-          view =
-              refl;
-          step = subst (λ (y : Opening). IsStep y (Acknowledge v.worker) Done (Worker v)
-              (Worker (answered v))) (sym same) r.0;
-        },
-        ap (λ (m : Me S View). m.1) is,
-      ),
-    )
-
-pub reporting : {S : Type 0} (key : Key) (slots id : ℕ) (me : Me S View) (form : Form) (more : ℕ)
-    → form ≡ (worker_view_of me.0).opening.limits.form
-    → more ≡ (form_of form).answer (worker_view_of me.0).worker
-    → me ≡ (Worker (worker_view_of me.0), [])
-    → RunsSplit (worker_view_of me.0).state
-    → SawEnding (worker_view_of me.0).last
-    → Allows (IsShowing key) slots id me 0 (λ n. (form_of form).put n more)
-    (λ found after. TellsWorker Reports answered me.0 after.0 × (after.1 ≡ []))
-reporting {S} key slots id me form more form_is more_is is split saw = λ st shows _ at _.
-    let z = opening_of key in
-    let v : WorkerSeatView = worker_view_of me.0 in
-    let here : get_elem? st.views id ≡ some (Worker v) = at ∙ ap (λ (m : Me S View). some m.0) is in
-    let same = worker_opening z st.words st.views id v shows here in
-    let formed : form ≡ z.limits.form = form_is ∙ ap (λ (y : Opening). y.limits.form) same in
-    let r = reports z st.words st.views id v shows here split saw in (
-      Worker (answered v),
-      keeps,
-      tt,
-      subst (λ (n : ℕ). ShowsSome z (slice_set st.words 0 n)
-          (slice_set st.views id (Worker (answered v))))
-          (sym (put_is form z.limits.form (get_or st.words 0 0) more (λ f. f.answer v.worker) formed more_is)) r.1,
-      (
-        record {
-          view =
-              refl;
-          step = subst (λ (y : Opening). IsStep y (Report v.worker) Done (Worker v) (Worker (answered v)))
-              (sym same) r.0;
-        },
-        ap (λ (m : Me S View). m.1) is,
-      ),
-    )
-
-pub retiring : {S : Type 0} (key : Key) (slots id : ℕ) (me : Me S View) (form : Form) (more : ℕ)
-    → form ≡ (worker_view_of me.0).opening.limits.form
-    → more ≡ (form_of form).retirement (worker_view_of me.0).worker
-    → me ≡ (Worker (worker_view_of me.0), [])
-    → RunsJoined (worker_view_of me.0).state
-    → Allows (IsShowing key) slots id me 0 (λ n. (form_of form).put n more)
-    (λ found after. TellsWorker Retires retired me.0 after.0 × (after.1 ≡ []))
-retiring {S} key slots id me form more form_is more_is is joined = λ st shows _ at _.
-    let z = opening_of key in
-    let v : WorkerSeatView = worker_view_of me.0 in
-    let here : get_elem? st.views id ≡ some (Worker v) = at ∙ ap (λ (m : Me S View). some m.0) is in
-    let same = worker_opening z st.words st.views id v shows here in
-    let formed : form ≡ z.limits.form = form_is ∙ ap (λ (y : Opening). y.limits.form) same in
-    let r = retires z st.words st.views id v shows here joined in (
-      Worker (retired v),
-      keeps,
-      tt,
-      subst (λ (n : ℕ). ShowsSome z (slice_set st.words 0 n)
-          (slice_set st.views id (Worker (retired v))))
-          (sym (put_is form z.limits.form (get_or st.words 0 0) more (λ f. f.retirement v.worker) formed more_is)) r.1,
-      (
-        record {
-          view =
-              refl;
-          step = subst (λ (y : Opening). IsStep y (Retire v.worker) Done (Worker v) (Worker (retired v)))
-              (sym same) r.0;
+          view = refl;
+          step = subst (λ (y : Opening). IsStep y (event v.worker) Done (Worker v) w) (sym same) r.0;
         },
         ap (λ (m : Me S View). m.1) is,
       ),
@@ -215,7 +137,7 @@ returning {S} key slots id me expected new is gone lets even new_is = λ st show
     let z = opening_of key in
     let v : WorkerSeatView = worker_view_of me.0 in
     let here : get_elem? st.views id ≡ some (Worker v) = at ∙ ap (λ (m : Me S View). some m.0) is in
-    let same = worker_opening z st.words st.views id v shows here in
+    let same = worker_opens z st.words st.views id v shows here in
     let found : ℕ = get_or st.words 0 0 in
     let none : me.1 ≡ [] = ap (λ (m : Me S View). m.1) is in
     elim (cases_eq found expected) [
@@ -265,7 +187,7 @@ surveying {S} key slots id me is = λ st shows _ at _.
     let z = opening_of key in
     let c : CoordSeatView = coord_view_of me.0 in
     let here : get_elem? st.views id ≡ some (Coord c) = at ∙ ap (λ (m : Me S View). some m.0) is in
-    let same = coord_opening z st.words st.views id c shows here in
+    let same = coord_opens z st.words st.views id c shows here in
     let r = surveys z st.words st.views id c shows here in
     let found : ℕ = get_or st.words 0 0 in
     let d : View = Coord (looked_coord c found (coord_sight_at z found)) in (
@@ -293,7 +215,7 @@ announcing {S} key slots id me is may = λ st shows _ at _.
     let z = opening_of key in
     let c : CoordSeatView = coord_view_of me.0 in
     let here : get_elem? st.views id ≡ some (Coord c) = at ∙ ap (λ (m : Me S View). some m.0) is in
-    let same = coord_opening z st.words st.views id c shows here in
+    let same = coord_opens z st.words st.views id c shows here in
     let r = announces z st.words st.views id c shows here may in (
       Coord (announced_coord c),
       keeps,
@@ -321,7 +243,7 @@ releasing {S} key slots id me seen new new_is seen_is is may = λ st shows _ at 
     let z = opening_of key in
     let c : CoordSeatView = coord_view_of me.0 in
     let here : get_elem? st.views id ≡ some (Coord c) = at ∙ ap (λ (m : Me S View). some m.0) is in
-    let same = coord_opening z st.words st.views id c shows here in
+    let same = coord_opens z st.words st.views id c shows here in
     let r = releases z st.words st.views id c seen shows here may seen_is in (
       Coord (released_coord c),
       keeps,
@@ -350,7 +272,7 @@ counting_page {S} key slots id me page is may = λ st shows _ at _.
     let found : ℕ = get_or st.words (word_of page) 0 in
     let d : CoordSeatView = counted_coord c page found in
     let here : get_elem? st.views id ≡ some (Coord c) = at ∙ ap (λ (m : Me S View). some m.0) is in
-    let same = coord_opening z st.words st.views id c shows here in
+    let same = coord_opens z st.words st.views id c shows here in
     let r = counts z st.words st.views id c page shows here may in
     let told : TellsCount page me.0 found (Coord d) =
     record {
@@ -459,7 +381,7 @@ making {S} key id v is room = λ st shows at.
     let z = opening_of key in
     let c : CoordSeatView = coord_view_of v in
     let here : get_elem? st.views id ≡ some (Coord c) = at ∙ ap some is in
-    let same = coord_opening z st.words st.views id c shows here in
+    let same = coord_opens z st.words st.views id c shows here in
     let P : Opening → Type 0 = λ y. c.made < y.workers in
     let Q : Opening → Type 0 =
     λ y. ShowsSome z st.words (slice_set st.views id (Coord (made_coord c)) ++ Worker (fresh y c.made) ∷ []) in
@@ -486,7 +408,7 @@ adding_page {S} key slots id me page n is may = λ st shows _ at _.
     let found : ℕ = get_or st.words (word_of page) 0 in
     let w : WorkerSeatView = added v page found n (length shows.log) in
     let here : get_elem? st.views id ≡ some (Worker v) = at ∙ ap (λ (m : Me S View). some m.0) is in
-    let same = worker_opening z st.words st.views id v shows here in
+    let same = worker_opens z st.words st.views id v shows here in
     let r = adds z st.words st.views id v page n shows here may in
     let told : TellsAdd page n me.0 found (Worker w) =
     record {
@@ -542,7 +464,7 @@ finding_page {S} key slots id me page move call next is reads number_is does act
     let w : WorkerSeatView = next v page found number in
     let again : w ≡ next v page found (number_of w) = ap (next v page found) (sym (number_is v found number)) in
     let here : get_elem? st.views id ≡ some (Worker v) = at ∙ ap (λ (m : Me S View). some m.0) is in
-    let same = worker_opening z st.words st.views id v shows here in
+    let same = worker_opens z st.words st.views id v shows here in
     let r = reads z st.words st.views shows here in
     let told : TellsRead does next page me.0 found (Worker w) =
     record {
@@ -599,7 +521,7 @@ reading_mask {S} key slots id me is split plain = λ st shows _ at _.
     let z = opening_of key in
     let v : WorkerSeatView = worker_view_of me.0 in
     let here : get_elem? st.views id ≡ some (Worker v) = at ∙ ap (λ (m : Me S View). some m.0) is in
-    let same = worker_opening z st.words st.views id v shows here in
+    let same = worker_opens z st.words st.views id v shows here in
     let r = reads_mask z st.words st.views id v shows here split
     (ap (λ (y : Opening). has_slots y.limits) (sym same) ∙ plain) in
     let found : ℕ = get_or st.words mask_place 0 in
@@ -664,7 +586,7 @@ reading_slots {S} key slots id me is may = λ st shows _ at _.
     let z = opening_of key in
     let v : WorkerSeatView = worker_view_of me.0 in
     let here : get_elem? st.views id ≡ some (Worker v) = at ∙ ap (λ (m : Me S View). some m.0) is in
-    let same = worker_opening z st.words st.views id v shows here in
+    let same = worker_opens z st.words st.views id v shows here in
     let r = reads_slots z st.words st.views id v shows here may.split
     (ap (λ (y : Opening). has_slots y.limits) (sym same) ∙ may.slotted) may.all in
     let found : ℕ = get_or st.words mask_place 0 in

@@ -33,22 +33,6 @@ use Rattle.like_board.specs.Own.{ShowsPhase, ShowsWorkers}
 use Rattle.like_board.specs.Plays.{coord_sight_at, sight_at}
 use Rattle.like_board.proofs.worker.Moves.{moment_of}
 
--- the opening in a worker's view is the board's
-pub worker_opens : (z : Opening) (words : List ℕ) (views : List View) (place : ℕ) (v : WorkerSeatView)
-    → ShowsSome z words views
-    → get_elem? views place ≡ some (Worker v)
-    → v.opening ≡ z
-worker_opens z words views place v some_state at =
-    let fits : FitsWorker z some_state.state v = some_state.shows.seats.each place (Worker v) at in fits.opening
-
--- and so is that in the coordinator's
-pub coord_opens : (z : Opening) (words : List ℕ) (views : List View) (place : ℕ) (c : CoordSeatView)
-    → ShowsSome z words views
-    → get_elem? views place ≡ some (Coord c)
-    → c.opening ≡ z
-coord_opens z words views place c some_state at =
-    let fits : FitsCoord z some_state.state c = some_state.shows.seats.each place (Coord c) at in fits.seats.opening
-
 -- a worker's look shows the phase and its end, as the coordinator knows them
 pub shows_phase : (z : Opening) (words : List ℕ) (views : List View) (place : ℕ) (v : WorkerSeatView)
     → ShowsSome z words views

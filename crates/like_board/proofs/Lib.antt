@@ -1,6 +1,7 @@
 -- Why each step of a worker and of the coordinator keeps a board's rule, and how a board begins, is lent and ends.
 pub mod worker
 pub mod Tallying
+pub mod Steps
 pub mod coordinator
 pub mod Gathering
 pub mod LastCounts

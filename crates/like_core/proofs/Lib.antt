@@ -1,6 +1,7 @@
 -- The phase word, the core and the views: what each event keeps. Sums, lists, logs and slots that they speak of.
 pub mod word
 pub mod Sums
+pub mod Lists
 pub mod Logs
 pub mod Rows
 pub mod Updates

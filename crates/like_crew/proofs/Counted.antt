@@ -13,8 +13,7 @@ use Rattle.like_promises.specs.declared.log.Took.{Took}
 use Rattle.like_promises.specs.declared.log.WorkerLog.{WorkerLog}
 use Rattle.like_promises.specs.Order.{Entry, entry_of}
 use Rattle.like_promises.specs.Workload.{Workload}
-use Rattle.like_promises.specs.Log.{IsLog}
-use Rattle.like_crew.specs.Server.{numbers_taken}
+use Rattle.like_promises.specs.Log.{IsLog, numbers_taken}
 use Rattle.like_crew.proofs.Ordered.{order-weighs}
 
 -- the plan of a submitter, which is empty where there is no such submitter

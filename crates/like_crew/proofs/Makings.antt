@@ -18,8 +18,8 @@ use Rattle.like_promises.specs.Workload.{Workload, lists_of, workload_of}
 use Rattle.like_crew.specs.Servers.{IsServer}
 use Rattle.like_crew.specs.Server.{AreInboxesFor, AreOwnPlans, AreUntouched, WorksFor, ServerView, plans_of, untouched}
 use Rattle.like_tables.proofs.Dealt.{get-dealt, map-dealt, there-dealt}
+use Rattle.like_promises.proofs.Lists.{AllZip-more}
 use Rattle.like_crew.proofs.servers.Shares.{plans-untouched}
-use Rattle.like_crew.proofs.lists.Pairs.{pairs-more}
 
 -- f and then g
 pub map-twice : {A B C : Type 0} (f : A → B) (g : B → C) (xs : List A) → map (λ x. g (f x)) xs ≡ map g (map f xs)
@@ -103,7 +103,7 @@ one-more R n servers s all h =
     subst (λ ns. AllZip R ns (servers ++ s ∷ []))
     (sym (sym (map-id _) ∙ map-range_with_len_more (λ (x : ℕ). x) 0 n n (omega arith)
     ∙ ap (λ xs. xs ++ n ∷ []) (map-id _)))
-    (pairs-more R (range_with_len 0 n) servers n s all h)
+    (AllZip-more R (range_with_len 0 n) servers n s all h)
 
 pub one-pushed : (R : ℕ → ServerView → Type 0) (n m : ℕ) (servers now : List ServerView) (s : ServerView)
     → now ≡ servers ++ s ∷ []

@@ -39,7 +39,7 @@ use Rattle.like_serial.proofs.Weigh.{only, sum-weigh, weigh, weigh-append, weigh
 use Rattle.like_crew.specs.declared.outcome.Outcome.{Outcome}
 use Rattle.like_crew.specs.Outcome.{IsOutcome}
 use Rattle.like_crew.specs.Server.{IsLogOf}
-use Rattle.like_crew.proofs.lists.Sums.{sum-of-map}
+use Rattle.like_core.proofs.Lists.{sum-of-map}
 use Rattle.like_crew.proofs.Whole.{HasCounted, HaveMasks, SawNoneLater, at-post, initial-at, known, left-at, log-there, logs-are, logs-size, posts, right, run-at, seat-worker, seats-size, served, server-at}
 
 -- nothing is added to a page in a phase

@@ -17,11 +17,11 @@ use Rattle.like_crew.specs.Crew.{CrewView, IsNewCrew}
 use Rattle.like_crew.specs.Progress.{items_left, items_of, progress_of}
 use Rattle.like_crew.specs.Server.{ServerView, untouched}
 use Rattle.like_crew.specs.Servers.{IsNewServer}
+use Rattle.like_core.proofs.Lists.{sum-of-map}
 use Rattle.like_crew.proofs.Makings.{all-map}
 use Rattle.like_crew.proofs.Progress.{progress_in}
 use Rattle.like_crew.proofs.lists.Dealt.{deal-sum}
 use Rattle.like_crew.proofs.lists.Pairs.{pairs-length, pairs-sum}
-use Rattle.like_crew.proofs.lists.Sums.{sum-of-map}
 
 -- what holds of the second of each pair
 seconds : {A B : Type 0} (R : A → B → Type 0) (P : B → Type 0) (xs : List A) (ys : List B)

@@ -38,6 +38,7 @@ use Rattle.like_promises.specs.RunStore.{store_after}
 use Rattle.like_promises.proofs.LikesBelow.{likes_below}
 use Rattle.like_roles.proofs.choice.Choosing.{chosen-more}
 use Rattle.like_roles.proofs.choice.Releasing.{none-even}
+use Rattle.like_core.proofs.Lists.{sum-of-map}
 use Rattle.like_crew.proofs.additions.Earlier.{below-is}
 use Rattle.like_promises.specs.Serial.{run_of}
 use Rattle.like_roles.specs.coordinator.Choice.{AreTotals, likes_counted}
@@ -59,7 +60,6 @@ use Rattle.like_crew.proofs.Hot.{hot-same, order-same, stashed-same, total}
 use Rattle.like_crew.proofs.Counted.{count-in-all, in_range, plan_of}
 use Rattle.like_crew.proofs.Ending.{as-many, server-at as server-of}
 use Rattle.like_crew.proofs.lists.Pairs.{pairs-length, pairs-sum, pairs-then}
-use Rattle.like_crew.proofs.lists.Sums.{sum-of-map}
 use Rattle.like_crew.proofs.Makings.{all-back}
 use Rattle.like_crew.proofs.servers.Finishing.{IsLogFor, log-for}
 

@@ -1,5 +1,5 @@
 -- A worker with the inboxes of its submitters.
-use Rattle.std.specs.Prelude.{◌≡◌, ◌≢◌, ℕ, ◌+◌, ◌<◌, ◌≤◌, ◌==◌, min, nat_lt, if◌then◌else◌, false, true, List, [], length, map, filter, slice_get, slice_index, slice_index_or, All, AllPairs, IfSome, Option, Some, None}
+use Rattle.std.specs.Prelude.{◌≡◌, ◌≢◌, ℕ, ◌+◌, ◌<◌, ◌≤◌, min, nat_lt, if◌then◌else◌, false, true, List, [], length, map, slice_get, slice_index, slice_index_or, All, AllPairs, IfSome, Option, Some, None}
 use Rattle.std.specs.List.{range_with_len}
 use Rattle.std.specs.Option.{option_map_or}
 use Rattle.like_requests.specs.Setup.{IsPlan, IsThere}
@@ -14,9 +14,9 @@ use Rattle.like_tables.specs.Share.{Share, dealt, rank_of, serves}
 use Rattle.like_roles.specs.worker.Follows.{Follows, IsDone}
 use Rattle.like_promises.specs.declared.log.Took.{Took}
 use Rattle.like_promises.specs.declared.log.WorkerLog.{WorkerLog}
+use Rattle.like_promises.specs.Log.{TakesPlans, numbers_taken}
 use Rattle.like_promises.specs.Workload.{Workload}
 use Rattle.like_roles.specs.worker.WorkerView.{WorkerView, phase_at}
-use Rattle.like_promises.specs.Log.{TakesPlans}
 
 -- the numbers that tell its board from others, the worker, the inboxes of its submitters by rank, and how many items of
 -- each are open to it
@@ -41,10 +41,6 @@ AreUntouched inboxes = All (λ i. i.taken ≡ 0) inboxes
 -- how many requests were taken from an inbox, the end mark aside
 abbrev pub requests_taken : InboxView → ℕ
 requests_taken i = min i.taken (length i.plan)
-
--- the numbers of the requests that were taken from a submitter, in their order
-abbrev pub numbers_taken : ℕ → List Took → List ℕ
-numbers_taken submitter taken = map (λ t. t.number) (filter (λ t. t.submitter == submitter) taken)
 
 -- the numbers of the requests that the inboxes have handed over from a submitter: 1, 2, .. as far as its inbox was taken,
 -- and none of a submitter that another worker serves

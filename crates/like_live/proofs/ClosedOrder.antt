@@ -18,7 +18,8 @@ use Rattle.like_live.specs.Opening.{board_opening}
 use Rattle.like_live.specs.Service.{AreGone, AreOpened, IsClosedService, posts_at}
 use Rattle.like_live.specs.Deeds.{Deed}
 use Rattle.like_live.specs.StrictService.{HasLastLikes, IsStrictService, SeatHistory, SeatsRise, SnapshotsStand, deeds_in, opened as store_opened}
-use Rattle.like_live.proofs.Closing.{all-of-map, post_at, sum-of-map}
+use Rattle.like_core.proofs.Lists.{sum-of-map}
+use Rattle.like_live.proofs.Closing.{all-of-map, post_at}
 use Rattle.like_live.proofs.DeedLikes.{count_is}
 use Rattle.like_live.proofs.SeatInOrder.{AreInOrder}
 use Rattle.like_live.proofs.OneThread.{in_one_order, settled_once_gone}

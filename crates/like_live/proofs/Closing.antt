@@ -14,12 +14,7 @@ use Rattle.like_board.proofs.BoardNumbers.{same_board}
 use Rattle.like_live.specs.Driver.{DriverView}
 use Rattle.like_live.specs.LiveView.{LiveView, tally}
 use Rattle.like_live.specs.Service.{AreBackFrom, AreGone, AreItsSeats, HasMergedOnceGone}
-
--- a sum over what a list stands for
-pub sum-of-map : {A B : Type 0} (f : B → ℕ) (g : A → B) (xs : List A) → sum_by f (map g xs) ≡ sum_by (λ x. f (g x)) xs
-sum-of-map f g [] = refl
-sum-of-map f g (x ∷ xs) =
-    sum_by-cons f (g x) (map g xs) ∙ ap (λ n. f (g x) + n) (sum-of-map f g xs) ∙ sym (sum_by-cons (λ y. f (g y)) x xs)
+use Rattle.like_core.proofs.Lists.{sum-of-map}
 
 -- two lists that stand for the same have equal sums
 pub sum-alike : {A B C : Type 0} (f : C → ℕ) (p : A → C) (q : B → C) (xs : List A) (ys : List B)

@@ -1,5 +1,5 @@
 -- How the looks that wait are found, one after the other.
-use Rattle.std.proofs.Common.{◌≡◌, ℕ, ◌+◌, ◌%◌, ◌<◌, ◌≤◌, ◌⊎◌, ◌||◌, inl, inr, Bool, false, List, [], ◌∷◌, ◌++◌, length, map, drop, Some, None, refl, ap, sym, ◌∙◌, subst, arith, append-nil, append_assoc, length-append, IsTrue}
+use Rattle.std.proofs.Common.{◌≡◌, ℕ, ◌+◌, ◌%◌, ◌<◌, ◌≤◌, ◌⊎◌, ◌||◌, inl, inr, Bool, false, List, [], ◌∷◌, ◌++◌, length, map, drop, Some, refl, ap, sym, ◌∙◌, subst, arith, append-nil, append_assoc, length-append, IsTrue}
 use Rattle.std.specs.List.{All, slice_get}
 use Rattle.std.proofs.lemmas.Bool.{ne_eqb, and_left, cases_eq}
 use Rattle.std.proofs.lemmas.List.{get_or-map, get_or_append_left, map-append, length-map}
@@ -32,17 +32,8 @@ use Rattle.like_live.specs.declared.asked.Found.{Found}
 use Rattle.like_live.specs.declared.answer.TurnAnswer.TheVariants as turn
 use Rattle.like_live.specs.LiveView.{LiveView, IsOwn, RanNext, waiting}
 use Rattle.like_live.specs.Moves.{FindsAll, IsFoundAt, Works, runs_joined, runs_split, step_for}
+use Rattle.like_core.proofs.Lists.{first_of}
 use Rattle.like_live.proofs.FoundSteps.{found-additions}
-
--- a list with a first element
-pub first_of : {X : Type 0} (xs : List X) (x : X) → slice_get xs 0 ≡ Some x → xs ≡ x ∷ drop 1 xs
-first_of [] x h = cc
-first_of (y ∷ ys) x h = let e : y ≡ x = cc h in ap (λ z. z ∷ ys) e
-
--- and one without
-pub none_first : {X : Type 0} (xs : List X) → slice_get xs 0 ≡ None → xs ≡ []
-none_first [] h = refl
-none_first (y ∷ ys) h = cc
 
 -- who runs a joined phase runs a phase
 pub running : (s : WorkerState) → RunsJoined s → IsRunning s

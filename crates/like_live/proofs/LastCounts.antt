@@ -21,7 +21,7 @@ use Rattle.like_live.specs.Driver.{DriverView, IsSameDriver}
 use Rattle.like_live.specs.Opening.{board_opening}
 use Rattle.like_live.specs.Service.{AreOpened, IsClosedService}
 use Rattle.like_live.specs.StrictService.{HasLastCounts, IsStrictService, SeatHistory, ServicesAreStrict, deeds_in, opened as store_opened}
-use Rattle.like_live.proofs.Closing.{sum-of-map}
+use Rattle.like_core.proofs.Lists.{sum-of-map}
 use Rattle.like_live.proofs.DeedLikes.{count_is}
 use Rattle.like_live.proofs.DeedTotals.{likes_of_deed}
 use Rattle.like_live.proofs.Histories.{histories_are_counted}

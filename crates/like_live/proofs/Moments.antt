@@ -17,7 +17,8 @@ use Rattle.like_seat.proofs.Moments.{none_held, posts_are_exclusive}
 use Rattle.like_live.specs.LiveView.{LiveView, tally}
 use Rattle.like_live.specs.Moments.{LastCountsAreTallies, SeatsAreExclusive}
 use Rattle.like_live.specs.Service.{HasMergedOnceGone}
-use Rattle.like_live.proofs.Closing.{all-of-map, post_at, sum-equal, sum-of-map}
+use Rattle.like_core.proofs.Lists.{sum-of-map}
+use Rattle.like_live.proofs.Closing.{all-of-map, post_at, sum-equal}
 
 -- a worker that runs a split phase runs the present one
 pub split-now : (z : Opening) (s : CoreState) (i : ℕ) (of : WorkerState)

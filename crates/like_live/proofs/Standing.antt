@@ -1,21 +1,17 @@
 -- What the steps of a seat keep.
-use Rattle.std.proofs.Common.{◌≡◌, ℕ, ◌%◌, ◌<◌, ◌==◌, ◌||◌, Bool, true, cond, List, [], ◌∷◌, ◌++◌, length, get_or, set, Some, None, refl, ap, sym, ◌∙◌, subst, append-nil, append_assoc, eq-eqb, inl, inr}
-use Rattle.std.specs.List.{AllByRecursion, list_any}
-use Rattle.std.proofs.lemmas.Bool.{cases_eq, cond-true}
+use Rattle.std.proofs.Common.{◌≡◌, ℕ, ◌%◌, ◌<◌, true, cond, List, [], ◌++◌, length, get_or, set, Some, None, refl, ap, sym, ◌∙◌, subst, append-nil, append_assoc, inl, inr}
+use Rattle.std.specs.List.{AllByRecursion}
+use Rattle.std.proofs.lemmas.Bool.{cases_eq}
 use Rattle.std.proofs.lemmas.List.{get_or-set_other, length-replicate, length-set}
 use Rattle.std.proofs.lemmas.List.FromFn.{length-map-range_with_len}
-use Rattle.like_core.specs.declared.view.PhaseMask.{PhaseMask}
 use Rattle.like_core.specs.declared.worker_state.WorkerState.{WorkerState}
 use Rattle.like_core.specs.declared.worker_state.WorkerState.TheVariants.{Runs}
-use Rattle.like_core.specs.Phase.{IsSplit}
-use Rattle.like_core.specs.PhaseMasks.{HasMask}
 use Rattle.like_core.specs.Post.{is_split_at, pages_of}
 use Rattle.like_core.specs.WorkerState.{RunsSplit}
 use Rattle.like_core.specs.declared.view.WorkerSeatView.{WorkerSeatView}
 use Rattle.like_requests.specs.declared.verdict.Verdict.TheVariants.{Accepted}
 use Rattle.like_requests.specs.Verdict.{home}
 use Rattle.like_seat.specs.StationView.{HasPhaseMask, IsSliceInSplit}
-use Rattle.like_seat.specs.Steps.{masks_entered}
 use Rattle.like_seat.proofs.Looking.{has-after, splits-after}
 use Rattle.like_seat.proofs.MergedLikes.{same_everywhere}
 use Rattle.like_serial.proofs.Phases.{all_append}
@@ -27,6 +23,7 @@ use Rattle.like_live.specs.LiveView.{LiveView, waiting}
 use Rattle.like_live.specs.Calls.{verdict_at}
 use Rattle.like_live.specs.Deeds.{Deed, deeds_of}
 use Rattle.like_live.specs.History.{HasDone, IsUnused, Told}
+use Rattle.like_seat.proofs.Entering.{entered-has}
 use Rattle.like_live.proofs.CallSteps.{by_calls}
 use Rattle.like_live.proofs.Stepping.{FollowsSteps, Step, acknowledges, adds_like, done_by, finds, glances, holds, looks, next, reads, reports, retires, returns, slices_like, takes, rows_follow}
 use Rattle.like_live.proofs.Requests.{passes_at}
@@ -54,13 +51,6 @@ pub record Stands (first v : LiveView) : Type 0 where
 -- an accepted request is of one of the seat's users
 pub is_his : (v : LiveView) (user page : ℕ) → verdict_at v.station user page ≡ Accepted → IsHis v user
 is_his v user page is = let known = passes_at v.station user page is in (known.0, known.1)
-
--- who enters a split phase has read its mask
-entered_mask : (masks : List PhaseMask) (phase mask : ℕ) → IsSplit phase → HasMask phase (masks_entered masks phase mask)
-entered_mask masks phase mask odd =
-    subst (HasMask phase)
-    (sym (cond-true (phase % 2 == 1) (record { phase = phase; mask = mask } ∷ masks) masks (eq-eqb (phase % 2) 1 odd)))
-    (ap (λ (b : Bool). b || list_any (λ (m : PhaseMask). m.phase == phase) masks) (eq-eqb phase phase refl))
 
 -- one like more of a page that is split
 one_more : (post : WorkerSeatView) (slice : List ℕ) (page n : ℕ) → IsSliceInSplit post slice → RunsSplit post.state
@@ -133,7 +123,7 @@ stands_next first v (returns phase mask number gone) k = record {
   share = k.share;
   sized = k.sized;
   table = k.table;
-  masked = λ odd. entered_mask v.station.post.masks phase mask odd;
+  masked = λ odd. entered-has v.station.post.masks phase mask odd;
   split = λ page some. absurd (subst RunsSplit gone (k.split page some).0);
   own = k.own;
 }

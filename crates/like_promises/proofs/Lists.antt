@@ -3,7 +3,7 @@ use Rattle.std.proofs.Common.{◌≡◌, ℕ, zero, suc, ◌-◌, ◌<◌, List,
 use Rattle.std.proofs.lemmas.List.{length-append}
 use Rattle.std.proofs.lemmas.List.Elements.{All-append}
 use Rattle.std.proofs.lemmas.List.Kept.{AllPairs-cons}
-use Rattle.std.specs.List.{AllPairs, slice_get}
+use Rattle.std.specs.List.{AllPairs, AllZip, slice_get}
 use Rattle.like_promises.specs.Likes.{last_in}
 
 -- an element of the first list keeps its place where another list follows
@@ -35,3 +35,13 @@ pairs-append R (x ∷ xs) ys first second across =
     (All-append (R x) xs ys (λ j d inside. first zero (suc j) d (omega arith) (omega arith)) (across zero x (omega arith)))
     (pairs-append R xs ys (λ i j d lt inside. first (suc i) (suc j) d (omega arith) (omega arith)) second
     (λ k d inside. across (suc k) d (omega arith)))
+
+-- one more pair of lists that match place by place
+pub AllZip-more : {A B : Type 0} (R : A → B → Type 0) (xs : List A) (ys : List B) (x : A) (y : B)
+    → AllZip R xs ys
+    → R x y
+    → AllZip R (xs ++ x ∷ []) (ys ++ y ∷ [])
+AllZip-more R [] [] x y h last = (last, tt)
+AllZip-more R [] (b ∷ bs) x y h last = absurd h
+AllZip-more R (a ∷ more) [] x y h last = absurd h
+AllZip-more R (a ∷ more) (b ∷ bs) x y h last = (h.0, AllZip-more R more bs x y h.1 last)

@@ -10,11 +10,15 @@ use Rattle.like_promises.specs.Replies.{HasRightAnswers}
 use Rattle.like_promises.specs.RunStore.{store_after}
 use Rattle.like_promises.specs.Workload.{Workload}
 
+-- the numbers of the requests that were taken from a submitter, in their order
+abbrev pub numbers_taken : ℕ → List Took → List ℕ
+numbers_taken submitter taken = map (λ t. t.number) (filter (λ t. t.submitter == submitter) taken)
+
 -- a worker took the requests of its submitters' plans, each once and in order, and no others
 abbrev pub TakesPlans : Workload → ℕ → ℕ → List Took → Type 0
 TakesPlans workload workers worker taken = (submitter : ℕ) →
     let plan = slice_index_or workload.plans submitter [] in
-    map (λ t. t.number) (filter (λ t. t.submitter == submitter) taken)
+    numbers_taken submitter taken
     ≡ (if worker_of workers submitter == worker then range_with_len 1 (length plan) else [])
 
 -- a worker's log: it took its submitters' plans, in phases that never fall, ran them in run order, and answered right

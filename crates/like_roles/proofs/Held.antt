@@ -28,6 +28,7 @@ use Rattle.like_roles.specs.declared.worker.judged.Judged.{Judged}
 use Rattle.like_roles.specs.worker.Judged.{IsJudged}
 use Rattle.like_roles.specs.worker.Ledger.{CanServe, HasNotedTaken, HasRoomFor, HasRoomForOne, HasRoomToNote, HasSubmitters, IsOwnOf, IsSettled, IsSound, IsTried, view_of}
 use Rattle.like_roles.specs.worker.Turns.{trying, with_taken}
+use Rattle.like_core.proofs.Lists.{first_of}
 use Rattle.like_roles.proofs.InBlocks.{runs-phase, runs-weaker}
 
 -- a request that the worker of a station may hold
@@ -37,16 +38,6 @@ IsOwn s h = IsOwnOf s.post s.last.share h
 -- there is room to take and to run all that its worker has yet to run
 abbrev pub HasRoom : StationView Held → Ledger → Type 0
 HasRoom s d = HasRoomFor (likes_of s) (sum s.slice) (length s.stash.looks) d
-
--- a list whose first element is known
-pub first_of : {X : Type 0} (xs : List X) (x : X) → slice_get xs 0 ≡ Some x → xs ≡ x ∷ drop 1 xs
-first_of [] x h = cc
-first_of (y ∷ ys) x h = let e : y ≡ x = cc h in ap (λ z. z ∷ ys) e
-
--- a list with no first element
-pub none_first : {X : Type 0} (xs : List X) → slice_get xs 0 ≡ None → xs ≡ []
-none_first [] h = refl
-none_first (y ∷ ys) h = cc
 
 -- what may be stashed stays so in the same share, at a board with the same marks
 pub AreOwn-moved : (s t : StationView Held) (hs : List Held)

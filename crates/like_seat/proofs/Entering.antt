@@ -25,7 +25,8 @@ use Rattle.like_tables.proofs.Sliced.{counts-none}
 use Rattle.like_seat.specs.declared.tables.Tables.{Tables}
 use Rattle.like_seat.specs.Kept.{EntersBy, IsFilled, IsFilledBySlots, IsKept, IsOfService, MayEnter, SplitsPages, is_split_by}
 use Rattle.like_seat.specs.Steps.{masks_entered}
-use Rattle.like_seat.proofs.Filling.{number-kept, same_tests}
+use Rattle.like_core.proofs.Below.{same_truth}
+use Rattle.like_seat.proofs.Filling.{number-kept}
 use Rattle.like_seat.proofs.Keeping.{in-split, splits-none}
 
 parity : (n : ℕ) → IsSplit n ⊎ IsJoined n
@@ -88,7 +89,7 @@ filled-service post slots word s after service limits few choice f = record {
       let n : ℕ = pages_of post in
       let h : ℕ = post.opening.limits.hot in
       let most = limits.slotted service.slotted in
-      same_tests (has_split after page) (nat_lt page n && (is_marked post.opening.marks page || is_hot_by h mask page))
+      same_truth (has_split after page) (nat_lt page n && (is_marked post.opening.marks page || is_hot_by h mask page))
       (λ held.
       let i = (f.splits page).0 held in
       let there : page < n = omega (arith, choice.there i.slot i.below i.used, i.holds) in
@@ -123,7 +124,8 @@ entered-mask masks phase mask odd =
     (cond-true (phase % 2 == 1) (record { phase = phase; mask = mask } ∷ masks) masks (eq-eqb (phase % 2) 1 odd))
     ∙ ap (λ (b : Bool). cond b mask (mask_of masks phase)) (eq-eqb phase phase refl)
 
-entered-has : (masks : List PhaseMask) (phase mask : ℕ) → IsSplit phase → HasMask phase (masks_entered masks phase mask)
+-- who enters a split phase has read its mask
+pub entered-has : (masks : List PhaseMask) (phase mask : ℕ) → IsSplit phase → HasMask phase (masks_entered masks phase mask)
 entered-has masks phase mask odd =
     subst (HasMask phase)
     (sym (cond-true (phase % 2 == 1) (record { phase = phase; mask = mask } ∷ masks) masks (eq-eqb (phase % 2) 1 odd)))

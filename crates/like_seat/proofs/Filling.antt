@@ -1,5 +1,5 @@
 -- A slice in which pages are split, one after the other, by the factor of a run.
-use Rattle.std.proofs.Common.{◌≡◌, ℕ, ◌+◌, ◌<◌, ◌&&◌, ◌↔◌, nat_lt, Bool, true, false, length, inl, inr, refl, sym, ap, ◌∙◌, arith}
+use Rattle.std.proofs.Common.{◌≡◌, ℕ, ◌+◌, ◌<◌, ◌&&◌, ◌↔◌, nat_lt, Bool, true, false, length, inl, inr, sym, ap, ◌∙◌, arith}
 use Rattle.std.proofs.lemmas.Bool.{and_from, and_parts, cases_eq, cases_lt, lt-ltb, ltb-true}
 use Rattle.like_limits.specs.Buckets.{bucket, buckets, run_factor}
 use Rattle.like_tables.specs.SplitPages.{MayPut, is_split}
@@ -9,6 +9,7 @@ use Rattle.like_core.specs.Functions.{has_bit}
 use Rattle.like_core.specs.Slots.{IsInSlot}
 use Rattle.like_limits.specs.Limits.{hot_pages}
 use Rattle.like_seat.specs.Kept.{AreSlotsApart, IsFilledBySlots}
+use Rattle.like_core.proofs.Below.{same_truth}
 
 -- in a run page i has bucket i
 pub bucket-run : (page : ℕ) → page < buckets → bucket run_factor page ≡ page
@@ -21,12 +22,6 @@ pub number-kept : (s after : SplitSlice) (page : ℕ) → after.splits.factor �
 number-kept s after page factor long here =
     let same : bucket_in after page ≡ bucket_in s page = ap (λ f. bucket f page) factor in
     omega (arith, same, long, here)
-
--- two tests are one where each implies the other
-pub same_tests : (a b : Bool) → (a ≡ true → b ≡ true) → (b ≡ true → a ≡ true) → a ≡ b
-same_tests true b to from = sym (to refl)
-same_tests false true to from = from refl
-same_tests false false to from = refl
 
 -- a page that is below n is below n + 1
 more : (test : ℕ → Bool) (n page : ℕ) → (nat_lt page n && test page) ≡ true → (nat_lt page (n + 1) && test page) ≡ true
@@ -56,7 +51,7 @@ module _ (s : SplitSlice) (is : IsSplitSlice s) (factor : s.splits.factor ≡ ru
   -- it is split
   pub fill-put : test n ≡ true → (page : ℕ) → has_split (with_split s n) page ≡ (nat_lt page (n + 1) && test page)
   fill-put held page =
-      same_tests (has_split (with_split s n) page) (nat_lt page (n + 1) && test page)
+      same_truth (has_split (with_split s n) page) (nat_lt page (n + 1) && test page)
       (λ put. elim (is_split-with_page s.splits n page is.pages fill-may put) [
         | inl same ↦
             and_from (nat_lt page (n + 1)) (test page) (lt-ltb page (n + 1) (omega arith)) (ap test same ∙ held)
@@ -75,7 +70,7 @@ module _ (s : SplitSlice) (is : IsSplitSlice s) (factor : s.splits.factor ≡ ru
   pub fill-skip : test n ≡ false → (page : ℕ) → has_split s page ≡ (nat_lt page (n + 1) && test page)
   fill-skip not_it page =
       splits page
-      ∙ same_tests (nat_lt page n && test page) (nat_lt page (n + 1) && test page) (more test n page)
+      ∙ same_truth (nat_lt page n && test page) (nat_lt page (n + 1) && test page) (more test n page)
       (λ both. let parts = and_parts (nat_lt page (n + 1)) (test page) both in
       elim (cases_eq page n) [
         | inl same ↦ absurd (cc (parts.1, ap test same, not_it))

@@ -28,7 +28,8 @@ use Rattle.like_seat.specs.declared.tables.Tables.{Tables}
 use Rattle.like_seat.specs.Kept.{IsKept, IsOfRun, IsOfService, SplitsPages}
 use Rattle.like_seat.specs.StationView.{HasPhaseMask, IsSliceInSplit}
 use Rattle.like_seat.specs.Steps.{IsNext, NoneFrom}
-use Rattle.like_seat.proofs.Filling.{number-kept, same_tests}
+use Rattle.like_core.proofs.Below.{same_truth}
+use Rattle.like_seat.proofs.Filling.{number-kept}
 
 -- who runs an odd phase runs a split one
 runs-split : (s : WorkerState) → IsRunning s → IsSplit (phase_of s) → RunsSplit s
@@ -44,7 +45,7 @@ knows-split post page runs masked = λ odd _ _. masked (runs-split post.state ru
 pub has_split-at_post : (post : WorkerSeatView) (s : SplitSlice) (page : ℕ) → SplitsPages post s → IsRunning post.state
     → page < pages_of post → has_split s page ≡ is_split_at post page
 has_split-at_post post s page splits runs there =
-    same_tests (has_split s page) (is_split_at post page) (λ stash. ((splits page).0 stash).2)
+    same_truth (has_split s page) (is_split_at post page) (λ stash. ((splits page).0 stash).2)
     (λ sliced.
     let odd = and_parts (phase_of post.state % 2 == 1)
     (is_marked post.opening.marks page || is_hot_by post.opening.limits.hot (mask_of post.masks (phase_of post.state)) page) sliced in

@@ -6,7 +6,7 @@ use Rattle.like_promises.specs.declared.log.Ran.{Ran}
 use Rattle.like_promises.specs.declared.log.Took.{Took}
 use Rattle.like_promises.specs.declared.log.WorkerLog.{WorkerLog}
 use Rattle.like_promises.specs.EndToEnd.{AreLogs, runs_of}
-use Rattle.like_promises.specs.Log.{IsLog}
+use Rattle.like_promises.specs.Log.{IsLog, numbers_taken}
 use Rattle.like_promises.specs.Order.{Entry, block, entry_in, entry_of, is_due, phases_of, waited}
 use Rattle.like_promises.specs.Replies.{HasRightAnswers}
 use Rattle.like_promises.specs.Workload.{Workload}
@@ -48,10 +48,6 @@ rises_unmap phase f (x ∷ xs) rises =
 any_all : {X : Type 0} (P : X → Type 0) (xs : List X) → ((x : X) → P x) → AllByRecursion P xs
 any_all P [] each = tt
 any_all P (x ∷ xs) each = (each x, any_all P xs each)
-
--- the numbers of what was taken from a submitter
-abbrev numbers_taken : ℕ → List Took → List ℕ
-numbers_taken submitter taken = map (λ t. t.number) (filter (λ t. t.submitter == submitter) taken)
 
 -- whose what was taken is
 taken_own : (workers w : ℕ) (taken : List Took)

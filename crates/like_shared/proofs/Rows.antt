@@ -24,11 +24,10 @@ use Rattle.like_live.specs.Calls as calls
 use Rattle.like_live.specs.LiveView.{IsSameSeat, LiveView, with_station}
 use Rattle.like_live.specs.Moves.{FindsAll, Moves, Works, acknowledged, acknowledges, is_gone, looked, reports, runs_joined, runs_split, waits, works}
 use Rattle.like_live.proofs.Calling.{GlancesNow-leaves, LeavesLikes, LikesNow-same, LooksNow-leaves}
-use Rattle.like_live.proofs.Moving.{Leaves-looked}
+use Rattle.like_live.proofs.Moving.{Leaves-looked, same_seat, same_seat_both}
 use Rattle.like_shared.specs.declared.deed.SeatDeed.{SeatDeed}
 use Rattle.like_shared.specs.Deeds.{SeatDoes}
 use Rattle.like_shared.specs.Rows.{IsAnswerTo, IsRowDone, IsRowPutOff, deeds_of_call, deeds_of_rows, row_deeds}
-use Rattle.like_shared.proofs.Same.{same-seat, same-seats}
 
 -- phase work leaves the same seat
 found-same : (v after : LiveView) → FindsAll v after → IsSameSeat v after
@@ -39,9 +38,9 @@ works-same : (v after : LiveView) (ending : Bool) (told : TurnAnswer) → Works 
 works-same v after ending told (runs_joined joined e a found) = found-same v after found
 works-same v after ending told (acknowledges now joined e a found is) =
     subst (IsSameSeat v) (sym is)
-    (same-seats v now (acknowledged now) (found-same v now found)
+    (same_seat_both v now (acknowledged now) (found-same v now found)
     (record { board = refl; worker = refl; marks = refl; share = refl }))
-works-same v after ending told (runs_split split e a is) = subst (IsSameSeat v) (sym is) (same-seat v)
+works-same v after ending told (runs_split split e a is) = subst (IsSameSeat v) (sym is) (same_seat v)
 works-same v after ending told (reports s split e a m is) =
     let adds = m.1.0.0 in
     let logged : List Logged = m.0.post.logged in
@@ -51,32 +50,32 @@ works-same v after ending told (reports s split e a m is) =
     (record { board = refl; worker = refl; marks = refl; share = refl })
 
 pub moves-same : (v after : LiveView) (told : TurnAnswer) → Moves v told after → IsSameSeat v after
-moves-same v after told (is_gone gone a is) = subst (IsSameSeat v) (sym is) (same-seat v)
+moves-same v after told (is_gone gone a is) = subst (IsSameSeat v) (sym is) (same_seat v)
 moves-same v after told (waits sight mask can w a is) =
     subst (IsSameSeat v) (sym is) (Leaves-looked v sight mask (number_of after.station.post)).same
 moves-same v after told (works sight mask number can w does) =
     let now = looked v sight mask number in
-    same-seats v now after (Leaves-looked v sight mask number).same (works-same now after sight.ending told does)
+    same_seat_both v now after (Leaves-looked v sight mask number).same (works-same now after sight.ending told does)
 
 -- no like is counted yet
 leaves-all : (v : LiveView) → LeavesLikes v v
-leaves-all v = record { same = same-seat v; tallies = λ page. refl; last = refl }
+leaves-all v = record { same = same_seat v; tallies = λ page. refl; last = refl }
 
 -- so does a call of a row
 call-same : (v after : LiveView) (c : Call) (a : Answer) → Makes v c a after → IsSameSeat v after
 call-same v after (call.Like user page) (answer.Like a) (calls.gone moves is) = moves-same v after _ moves
 call-same v after (call.Like user page) (answer.Like a) (calls.between moves is) = moves-same v after _ moves
 call-same v after (call.Like user page) (answer.Like a) (calls.runs now moves does) =
-    same-seats v now after (moves-same v now _ moves) (LikesNow-same now after user page a does)
+    same_seat_both v now after (moves-same v now _ moves) (LikesNow-same now after user page a does)
 call-same v after (call.Look user page tag) (answer.Look a) (calls.gone moves is) = moves-same v after _ moves
 call-same v after (call.Look user page tag) (answer.Look a) (calls.between moves is) = moves-same v after _ moves
 call-same v after (call.Look user page tag) (answer.Look a) (calls.runs now moves does) =
-    same-seats v now after (moves-same v now _ moves)
+    same_seat_both v now after (moves-same v now _ moves)
     (LooksNow-leaves now now after user page tag a (leaves-all now) does).same
 call-same v after (call.Glance user page) (answer.Glance a) (calls.gone moves is) = moves-same v after _ moves
 call-same v after (call.Glance user page) (answer.Glance a) (calls.between moves is) = moves-same v after _ moves
 call-same v after (call.Glance user page) (answer.Glance a) (calls.runs now moves does) =
-    same-seats v now after (moves-same v now _ moves)
+    same_seat_both v now after (moves-same v now _ moves)
     (GlancesNow-leaves now now after user page a (leaves-all now) does).same
 call-same v after (call.Like user page) (answer.Look a) wrong = absurd wrong
 call-same v after (call.Like user page) (answer.Glance a) wrong = absurd wrong

@@ -1,7 +1,7 @@
 -- Calls, one after the other, leave the same driver and the same seat.
 use Rattle.std.proofs.Common.{◌<◌, refl, sym, ◌∙◌, subst}
 use Rattle.like_live.specs.Driver.{DriverView, IsSameDriver}
-use Rattle.like_live.specs.LiveView.{IsSameSeat, LiveView}
+use Rattle.like_live.proofs.Moving.{same_seat, same_seat_both}
 use Rattle.like_shared.specs.Staying.{SameStays}
 
 pub same-driver : (v : DriverView) → IsSameDriver v v
@@ -19,22 +19,10 @@ same-drivers u v w p q = record {
   };
 }
 
-pub same-seat : (v : LiveView) → IsSameSeat v v
-same-seat v = record { board = refl; worker = refl; marks = refl; share = refl }
-
--- the same seat, twice
-pub same-seats : (u v w : LiveView) → IsSameSeat u v → IsSameSeat v w → IsSameSeat u w
-same-seats u v w p q = record {
-  board = q.board ∙ p.board;
-  worker = q.worker ∙ p.worker;
-  marks = q.marks ∙ p.marks;
-  share = q.share ∙ p.share;
-}
-
 pub same-stays : SameStays
 same-stays = record {
   driver_first = same-driver;
   driver_then = same-drivers;
-  seat_first = same-seat;
-  seat_then = same-seats;
+  seat_first = same_seat;
+  seat_then = same_seat_both;
 }

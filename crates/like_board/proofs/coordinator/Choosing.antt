@@ -20,14 +20,12 @@ use Rattle.like_core.specs.OpeningLimits.{has_slots}
 use Rattle.like_core.specs.Slots.{IsChoice, mask_of_slots}
 use Rattle.like_core.specs.WorkerState.{IsIn}
 use Rattle.like_core.specs.core.Numbers.{AllIn}
-use Rattle.like_core.specs.core.Table.{Permits}
 use Rattle.like_core.specs.core.State.{CoreState, numbers}
 use Rattle.like_core.specs.views.Views.{counted_coord, published_coord, slotted_coord, slots_put, SawAllIn, MayCount, MayPublish, MayPut, MayPublishSlots}
 use Rattle.like_core.specs.views.Reads.{IsCounted}
 use Rattle.like_core.specs.views.Posts.{posts_before, posts_of}
 use Rattle.like_core.specs.views.Tallies.{room}
 use Rattle.like_core.specs.views.Layout.{mask_place, slot_in, slot_place, word_of}
-use Rattle.like_core.specs.views.Order.{IsOrder}
 use Rattle.like_core.specs.views.Shows.{Shows, ShowsSome, FitsWorker, FitsCoord, FixesMask, IsStep}
 use Rattle.like_core.proofs.views.Ordered.{applied_now, past_now}
 use Rattle.like_core.proofs.Slots.{choice-same, mask-below, mask_by-plain, mask_by-slots, mask_of_slots-same}
@@ -35,6 +33,7 @@ use Rattle.like_core.proofs.views.Apart.{word_of-past}
 use Rattle.like_core.proofs.views.KeptOrder.{other_step_keeps_order, same_coord}
 use Rattle.like_board.proofs.worker.Moves.{moment_of}
 use Rattle.like_board.proofs.worker.WorkerSteps.{running_is}
+use Rattle.like_board.proofs.Steps.{steps_by}
 use Rattle.like_board.proofs.Tallying.{tallied_on}
 use Rattle.like_board.proofs.coordinator.Fitting.{same_seats, same_phase}
 use Rattle.like_board.proofs.coordinator.Leads.{ShowsChoice, of_coord, choice_same, leads}
@@ -91,32 +90,13 @@ counts z words views place c page some_state at may =
     fits
     (λ v f. f))
     in
-    let permits : Permits (numbers z s) (CoordRead page) =
-    record { there = on; suits = tt; leaves_last = tt; room = tt } in
-    let order : IsOrder z s (set views place (Coord d)) some_state.log =
-    other_step_keeps_order z s s views some_state.log place (Coord c) (Coord d) at (same_coord c d refl) (omega arith)
-    (λ _. refl) some_state.order
-    in (
-      record {
-        moment = moment_of z words views some_state;
-        place = place;
-        mine = at;
-        happen = record { before = tt; permits = permits; tells = ap Count found_is };
-        changed = word_of page;
-        word = found;
-        shows_after = after_it;
-        goes_on = order;
-      },
-      record {
-        state = s;
-        reachable = some_state.reachable;
-        shows = after_it;
-        tallied = tallied_on z.limits s s views place (Coord c) (Coord d) (λ _. refl) at
-            (λ _. refl) some_state.tallied;
-        log = some_state.log;
-        order = order;
-      },
-    )
+    steps_by z words views place (word_of page) found (Coord c) (Coord d) (CoordRead page) (Count found) s some_state at
+    (record {
+      before = tt;
+      permits = record { there = on; suits = tt; leaves_last = tt; room = tt };
+      tells = ap Count found_is;
+    })
+    refl after_it (omega arith) (λ _. refl) (same_coord c d refl) (λ _. refl)
 
 -- while all are in, no worker runs a phase: none has read slots
 none_read : (z : Opening) (s : CoreState) (words : List ℕ) (views : List View)

@@ -8,7 +8,7 @@ use lib.ListN.{get_elem?}
 use Rattle.like_core.specs.declared.sight.Sight.{Sight}
 use Rattle.like_core.specs.declared.sight.CoordSight.{CoordSight}
 use Rattle.like_core.specs.declared.event.Event.TheVariants.{CoordLook, Announce, Release}
-use Rattle.like_core.specs.declared.shown.Shown.TheVariants.{Done}
+use Rattle.like_core.specs.declared.shown.Shown.TheVariants.{Coord as CoordShown, Done}
 use Rattle.like_core.specs.declared.opening.Opening.{Opening}
 use Rattle.like_core.specs.declared.view.PhaseMask.{PhaseMask}
 use Rattle.like_core.specs.declared.view.WorkerSeatView.{WorkerSeatView}
@@ -24,15 +24,14 @@ use Rattle.like_core.specs.core.Table.{Permits}
 use Rattle.like_core.specs.core.State.{CoreState, numbers}
 use Rattle.like_core.specs.word.ShownWord.{shown_word}
 use Rattle.like_core.specs.views.Views.{looked_coord, announced_coord, released_coord, mask_released, saw_all_gone, SawAllIn, MayAnnounce, MayRelease}
-use Rattle.like_core.specs.views.Order.{IsOrder}
 use Rattle.like_core.specs.views.Shows.{Shows, ShowsSome, FitsWorker, FitsCoord, IsStep, mask_in}
 use Rattle.like_core.proofs.Updates.{update-same, update-other}
 use Rattle.like_core.proofs.core.Moved.{moved_in_phase, moves_by}
 use Rattle.like_core.proofs.word.Serving.{coord_sees, serves}
-use Rattle.like_core.proofs.views.KeptOrder.{other_step_keeps_order, same_coord}
+use Rattle.like_core.proofs.views.KeptOrder.{same_coord}
 use Rattle.like_board.specs.Plays.{Surveyed, coord_sight_at}
-use Rattle.like_board.proofs.worker.Moves.{moment_of, if_some}
-use Rattle.like_board.proofs.Tallying.{tallied_on}
+use Rattle.like_board.proofs.worker.Moves.{if_some}
+use Rattle.like_board.proofs.Steps.{steps_by}
 use Rattle.like_board.proofs.coordinator.Fitting.{same_seats}
 use Rattle.like_board.proofs.coordinator.Leads.{phased, of_coord, choice_same, choice_forgot, leads_word}
 use Rattle.like_board.proofs.worker.WorkerSteps.{running_is}
@@ -93,10 +92,14 @@ surveys z words views place c some_state at =
     (omega arith) sh.board.phase sh.board.mask sh.board.chosen
     (choice_forgot z words views c d refl (of_coord z s words views place c sh at).0) fits (λ v f. f)
     in
-    let permits : Permits (numbers z s) CoordLook = record { there = tt; suits = tt; leaves_last = tt; room = tt } in
-    let order : IsOrder z s (set views place (Coord d)) some_state.log =
-    other_step_keeps_order z s s views some_state.log place (Coord c) (Coord d) at (same_coord c d refl) (omega arith)
-    (λ _. refl) some_state.order
+    let step =
+    steps_by z words views place 0 found (Coord c) (Coord d) CoordLook (CoordShown sight) s some_state at
+    (record {
+      before = tt;
+      permits = record { there = tt; suits = tt; leaves_last = tt; room = tt };
+      tells = (sight, refl, sees);
+    })
+    refl after_it (omega arith) (λ _. refl) (same_coord c d refl) (λ _. refl)
     in (
       record {
         number = sees.number ∙ sym old.phase.present;
@@ -104,26 +107,9 @@ surveys z words views place c some_state at =
         ending = sees.ending ∙ sym old.phase.ending;
         all_in = λ is. sees.all_in.1 (old.phase.all_in is).0;
         gone = λ split all. old.phase.gone (subst IsSplit old.phase.present split) (sees.all_gone.0 all);
-        step = record {
-          moment = moment_of z words views some_state;
-          place = place;
-          mine = at;
-          happen = record { before = tt; permits = permits; tells = (sight, refl, sees) };
-          changed = 0;
-          word = found;
-          shows_after = after_it;
-          goes_on = order;
-        };
+        step = step.0;
       },
-      record {
-        state = s;
-        reachable = some_state.reachable;
-        shows = after_it;
-        tallied = tallied_on z.limits s s views place (Coord c) (Coord d) (λ _. refl) at
-            (λ _. refl) some_state.tallied;
-        log = some_state.log;
-        order = order;
-      },
+      step.1,
     )
 
 -- what holds of the value of an option, in two ways
@@ -216,30 +202,9 @@ announces z words views place c some_state at may =
     fits
     workers
     in
-    let order : IsOrder z t (set views place (Coord d)) some_state.log =
-    other_step_keeps_order z s t views some_state.log place (Coord c) (Coord d) at (same_coord c d refl) (omega arith)
-    (λ _. refl) some_state.order
-    in (
-      record {
-        moment = moment_of z words views some_state;
-        place = place;
-        mine = at;
-        happen = record { before = tt; permits = permits; tells = refl };
-        changed = 0;
-        word = word;
-        shows_after = after_it;
-        goes_on = order;
-      },
-      record {
-        state = t;
-        reachable = reachable;
-        shows = after_it;
-        tallied = tallied_on z.limits s t views place (Coord c) (Coord d) (λ _. refl) at
-            (λ _. refl) some_state.tallied;
-        log = some_state.log;
-        order = order;
-      },
-    )
+    steps_by z words views place 0 word (Coord c) (Coord d) Announce Done t some_state at
+    (record { before = tt; permits = permits; tells = refl }) refl after_it (omega arith) (λ _. refl)
+    (same_coord c d refl) (λ _. refl)
 
 -- what the coordinator knows where it saw all in: the sight is still what a look would show, and the word the one seen
 pub record AllAreIn (z : Opening) (s : CoreState) (c : CoordSeatView) : Type 0 where
@@ -402,27 +367,6 @@ releases z words views place c seen some_state at may seen_is =
     fits
     workers
     in
-    let order : IsOrder z t (set views place (Coord d)) some_state.log =
-    other_step_keeps_order z s t views some_state.log place (Coord c) (Coord d) at (same_coord c d refl) (omega arith)
-    (λ _. refl) some_state.order
-    in (
-      record {
-        moment = moment_of z words views some_state;
-        place = place;
-        mine = at;
-        happen = record { before = tt; permits = permits; tells = refl };
-        changed = 0;
-        word = released_word z seen;
-        shows_after = after_it;
-        goes_on = order;
-      },
-      record {
-        state = t;
-        reachable = moves_by z s (Release mask) some_state.reachable permits;
-        shows = after_it;
-        tallied = tallied_on z.limits s t views place (Coord c) (Coord d) (λ _. refl) at
-            (λ _. refl) some_state.tallied;
-        log = some_state.log;
-        order = order;
-      },
-    )
+    steps_by z words views place 0 (released_word z seen) (Coord c) (Coord d) (Release mask) Done t some_state at
+    (record { before = tt; permits = permits; tells = refl }) refl after_it (omega arith) (λ _. refl)
+    (same_coord c d refl) (λ _. refl)

@@ -1,5 +1,5 @@
 -- An addition to a page's word is its events, and keeps what the board shows.
-use Rattle.std.proofs.Common.{◌≡◌, ◌≢◌, ℕ, ◌+◌, ◌-◌, ◌%◌, ◌^◌, ◌<◌, ◌≤◌, ◌==◌, Bool, true, false, cond, inl, inr, List, ◌∷◌, ◌++◌, All, length, get_or, set, replicate, subst, ap, sym, ◌∙◌, refl, append-nil, eq-eqb, arith, fold}
+use Rattle.std.proofs.Common.{◌≡◌, ◌≢◌, ℕ, ◌+◌, ◌-◌, ◌%◌, ◌^◌, ◌<◌, ◌≤◌, ◌==◌, Bool, true, false, cond, inl, inr, List, [], ◌∷◌, ◌++◌, All, length, get_or, set, replicate, subst, ap, sym, ◌∙◌, refl, append-nil, eq-eqb, arith, fold}
 use Rattle.std.proofs.lemmas.Bool.{cases_eq, cases_lt, ne_eqb}
 use Rattle.std.proofs.lemmas.List.{length-append, length-replicate}
 use Rattle.std.proofs.lemmas.List.Elements.{All-get_or}
@@ -20,7 +20,7 @@ use Rattle.like_limits.specs.Limits.{max_count}
 use Rattle.like_core.specs.Functions.{update}
 use Rattle.like_core.specs.core.Table.{IsShown}
 use Rattle.like_core.specs.core.State.{CoreState, Label, is_split_now, after, numbers}
-use Rattle.like_core.specs.core.Moves.{Reached, makes}
+use Rattle.like_core.specs.core.Moves.{makes}
 use Rattle.like_core.specs.WorkerState.{IsIn, phase_of}
 use Rattle.like_core.specs.Post.{MayAdd, is_split_at, added}
 use Rattle.like_core.specs.Additions.{added_to}
@@ -28,21 +28,21 @@ use Rattle.like_core.specs.PageSteps.{additions_among, page_step}
 use Rattle.like_core.specs.views.Views.{likes_merged, adding}
 use Rattle.like_core.specs.views.Reads.{IsCounted}
 use Rattle.like_core.specs.views.Posts.{posts_before, posts_of}
-use Rattle.like_core.specs.views.Order.{AppliesTo, IsOrder}
+use Rattle.like_core.specs.views.Order.{AppliesTo}
 use Rattle.like_core.specs.views.Tallies.{Tallied, room}
 use Rattle.like_core.proofs.views.ViewSums.{added_posts, paged, added_to-le}
 use Rattle.like_core.proofs.views.Ordered.{applied_now}
 use Rattle.like_core.specs.views.Layout.{word_of}
 use Rattle.like_core.specs.views.Shows.{Shows, ShowsSome, FitsWorker, FitsCoord, IsEntry}
 use Rattle.like_core.proofs.Updates.{update-same, update-other}
-use Rattle.like_core.proofs.core.Moved.{moved_in_phase, moves_by, moves_by_all}
 use Rattle.like_core.proofs.core.Labels.{label, added_to_here, added_to_else}
 use Rattle.like_core.proofs.core.Adding.{Adding, with_applied, adds_either}
 use Rattle.like_core.proofs.views.KeptOrder.{page_step_keeps_order}
 use Rattle.like_core.proofs.views.KeptCounts.{addition_before, counted_on}
 use Rattle.like_core.proofs.views.ViewLists.{sum_part, sum_set, sum_swap}
 use Rattle.like_board.proofs.worker.Moves.{moment_of, one_seat}
-use Rattle.like_board.proofs.worker.WorkerSteps.{running_is}
+use Rattle.like_board.proofs.worker.WorkerSteps.{RunsNow, runs_now}
+use Rattle.like_board.proofs.Steps.{steps}
 use Rattle.like_board.proofs.worker.Pages.{split_alike, page_steps}
 
 -- what stands of likes that worker i applied to a page in phase k
@@ -179,10 +179,8 @@ adds z words views place v page n some_state at may =
     let sh = some_state.shows in
     let i = v.worker in
     let old : FitsWorker z s v = sh.seats.each place (Worker v) at in
-    let runs = running_is (λ _. Unit {0}) v.state may.runs in
-    let here : s.state i ≡ Runs runs.0 = old.state ∙ runs.1 in
-    let now : runs.0 ≡ s.phase = (moved_in_phase z s some_state.reachable).runs i runs.0 here in
-    let present : phase_of v.state ≡ s.phase = ap phase_of runs.1 ∙ now in
+    let now : RunsNow (λ _. Unit {0}) z s v = runs_now (λ _. Unit {0}) z words views place v some_state at may.runs in
+    let present : phase_of v.state ≡ s.phase = ap phase_of now.runs in
     let marks : length v.opening.marks ≡ length z.counts =
     ap (λ (y : Opening). length y.marks) old.opening ∙ sh.opening.marks
     in
@@ -207,8 +205,8 @@ adds z words views place v page n some_state at may =
     split_alike z s v page old present may.known in
     let a : Adding z s i page n (likes_merged v page n) (adding v page) =
     adds_either z s i page n (is_split_at v page) same may.like
-    (λ sliced. old.ending may.runs (may.merge sliced).1)
-    sh.merged old.there on (here ∙ ap Runs now) (omega arith)
+    (λ sliced. now.ending (may.merge sliced).1)
+    sh.merged old.there on now.here (omega arith)
     in
     let t : CoreState = with_applied s a.rest page (replicate n (label i s.phase)) in
     let word : ℕ = (get_or words (word_of page) 0 + n) % 2 ^ 64 in
@@ -222,45 +220,23 @@ adds z words views place v page n some_state at may =
     (λ q other. applied_else s i page n q other)
     a.merged
     (fits_added z s v page count n number a.rest old)
-    (counted_added z s words views place v page count n number sh at (here ∙ ap Runs now) present)
-    in
-    let last : CoreState = after z (fold (after z) s (likes_merged v page n)) (adding v page) in
-    let reached : Reached z last =
-    moves_by z (fold (after z) s (likes_merged v page n)) (adding v page)
-    (moves_by_all z s (likes_merged v page n) some_state.reachable a.before)
-    a.permits
+    (counted_added z s words views place v page count n number sh at now.here present)
     in
     let some_are : 1 ≤ n = some_likes v page n may in
     let step : PageStep = page_step v.worker (phase_of v.state) page count (Add n) in
-    let order : IsOrder z t (set views place (Worker w)) (Did step ∷ some_state.log) =
-    page_step_keeps_order z s t views some_state.log place v page count (Add n)
+    let told =
+    steps z words views place (word_of page) word (Worker v) (Worker w) (likes_merged v page n) (makes (adding v page))
+    (Old count) (Did step ∷ []) t some_state at
+    (record {
+      before = a.before;
+      permits = a.permits;
+      tells = subst (λ (k : ℕ). IsShown (numbers z (fold (after z) s (likes_merged v page n))) (adding v page) (Old k))
+          (sym found) a.tells;
+    })
+    a.leads shows
+    (page_step_keeps_order z s t views some_state.log place v page count (Add n)
     (record { mine = at; once = one_seat z s words views place v sh at; present = present; finds = found }) some_are
-    (applies_to s i page n a.rest) some_state.order
-    in (
-      record {
-        moment = moment_of z words views some_state;
-        place = place;
-        mine = at;
-        happen = record {
-          before = a.before;
-          permits = a.permits;
-          tells = subst (λ (k : ℕ). IsShown (numbers z (fold (after z) s (likes_merged v page n))) (adding v page)
-              (Old k)) (sym found) a.tells;
-        };
-        changed = word_of page;
-        word = word;
-        shows_after = subst (λ (u : CoreState). Shows z u (set words (word_of page) word)
-            (set views place (Worker w))) {x = t} {y = last} (sym {a = last} {b = t} a.leads) shows;
-        goes_on = subst (λ (u : CoreState). IsOrder z u (set views place (Worker w)) (Did step ∷ some_state.log)) {x = t}
-            {y = last} (sym {a = last} {b = t} a.leads) order;
-      },
-      record {
-        state = t;
-        reachable = subst (Reached z) {x = last} {y = t} a.leads reached;
-        shows = shows;
-        tallied = tallied_added z.limits s views place v page count n number a.rest at present few some_state.tallied;
-        log = Did step ∷ some_state.log;
-        order = order;
-      },
-      omega arith,
-    )
+    (applies_to s i page n a.rest) some_state.order)
+    (tallied_added z.limits s views place v page count n number a.rest at present few some_state.tallied)
+    in
+    (told.0, told.1, omega arith)

@@ -51,6 +51,22 @@ keeps_elsewhere words place word no_slot no_mask = record {
 abbrev pub moment_of : (z : Opening) (words : List ℕ) (views : List View) → ShowsSome z words views → Moment z
 moment_of z words views some_state = record { words = words; views = views; shown = some_state }
 
+-- the opening in a worker's view is the board's
+pub worker_opens : (z : Opening) (words : List ℕ) (views : List View) (place : ℕ) (v : WorkerSeatView)
+    → ShowsSome z words views
+    → get_elem? views place ≡ some (Worker v)
+    → v.opening ≡ z
+worker_opens z words views place v some_state at =
+    let fits : FitsWorker z some_state.state v = some_state.shows.seats.each place (Worker v) at in fits.opening
+
+-- and so is that in the coordinator's
+pub coord_opens : (z : Opening) (words : List ℕ) (views : List View) (place : ℕ) (c : CoordSeatView)
+    → ShowsSome z words views
+    → get_elem? views place ≡ some (Coord c)
+    → c.opening ≡ z
+coord_opens z words views place c some_state at =
+    let fits : FitsCoord z some_state.state c = some_state.shows.seats.each place (Coord c) at in fits.seats.opening
+
 -- after a step of a seat at its place, its new view is known
 pub known_of : (z : Opening) (words : List ℕ) (views : List View) (place : ℕ) (v w : View)
     → get_elem? views place ≡ some v

@@ -21,9 +21,8 @@ use Rattle.like_core.specs.declared.view.View.{View}
 use Rattle.like_core.specs.declared.view.View.TheVariants.{Worker}
 use Rattle.like_limits.specs.Limits.{hot_pages, total_bound}
 use Rattle.like_core.specs.Phase.{IsSplit}
-use Rattle.like_core.specs.core.Table.{Permits}
 use Rattle.like_core.specs.core.Moves.{IsShownBy, MayMove, Move, after_move, glances as glances_at, makes}
-use Rattle.like_core.specs.core.State.{CoreState, is_split_now, numbers}
+use Rattle.like_core.specs.core.State.{CoreState, is_split_now}
 use Rattle.like_core.specs.WorkerState.{phase_of, IsRunning, RunsSplit}
 use Rattle.like_core.specs.Post.{MayRead, MayGlance, KnowsSplit, is_split_at, has_read, has_glanced, with_mask, with_slot, slots_read, MayReadSlot}
 use Rattle.like_core.specs.OpeningLimits.{has_slots}
@@ -35,15 +34,15 @@ use Rattle.like_core.proofs.views.ViewSums.{added_posts, paged}
 use Rattle.like_core.proofs.views.Ordered.{applied_now}
 use Rattle.like_core.specs.views.Layout.{mask_place, slot_in, slot_place, word_of}
 use Rattle.like_core.specs.views.Shows.{Shows, ShowsSome, FitsWorker, IsEntry, IsStep, mask_in}
-use Rattle.like_core.proofs.core.Moved.{moved_in_phase}
 use Rattle.like_core.proofs.Slots.{choice-same, mask_by-plain, mask_by-slots, mask_of_slots-same}
 use Rattle.like_core.proofs.views.KeptOrder.{applies_none, other_step_keeps_order, page_step_keeps_order, same_worker}
 use Rattle.like_core.proofs.views.KeptCounts.{counted_same}
 use Rattle.like_core.proofs.views.ViewLists.{sum_part}
 use Rattle.like_board.proofs.worker.Additions.{count_low}
 use Rattle.like_board.proofs.worker.Moves.{moment_of, one_seat, worker_steps}
-use Rattle.like_board.proofs.worker.WorkerSteps.{running_is}
+use Rattle.like_board.proofs.worker.WorkerSteps.{RunsNow, runs_now}
 use Rattle.like_board.proofs.worker.Pages.{split_alike, page_steps}
+use Rattle.like_board.proofs.Steps.{steps, steps_by}
 use Rattle.like_board.proofs.Tallying.{tallied_on}
 
 -- the first elements of a list that is the beginning of another
@@ -89,12 +88,9 @@ reads_word z words views place v page move call ds logged some_state at running 
     same_adds keep_order =
     let s = some_state.state in
     let sh = some_state.shows in
-    let i = v.worker in
     let old : FitsWorker z s v = sh.seats.each place (Worker v) at in
-    let runs = running_is (λ _. Unit {0}) v.state running in
-    let here : s.state i ≡ Runs runs.0 = old.state ∙ runs.1 in
-    let now : runs.0 ≡ s.phase = (moved_in_phase z s some_state.reachable).runs i runs.0 here in
-    let present : phase_of v.state ≡ s.phase = ap phase_of runs.1 ∙ now in
+    let now : RunsNow (λ _. Unit {0}) z s v = runs_now (λ _. Unit {0}) z words views place v some_state at running in
+    let present : phase_of v.state ≡ s.phase = ap phase_of now.runs in
     let marks : length v.opening.marks ≡ length z.counts =
     ap (λ (y : Opening). length y.marks) old.opening ∙ sh.opening.marks
     in
@@ -127,37 +123,22 @@ reads_word z words views place v page move call ds logged some_state at running 
     sh.counted)
     in
     let step : PageStep = page_step v.worker (phase_of v.state) page count call in
-    let order : IsOrder z s (set views place (Worker w)) (Did step ∷ some_state.log) =
-    keep_order
+    let told =
+    steps z words views place (word_of page) count (Worker v) (Worker w) [] move (Count count) (Did step ∷ []) s some_state at
+    (record {
+      before = tt;
+      permits = permitted now.here old.there on same;
+      tells = subst (λ (n : ℕ). IsShownBy z s move (Count n)) (sym found) shown;
+    })
+    stays shows
+    (keep_order
     (record { mine = at; once = one_seat z s words views place v sh at; present = present; finds = found })
-    some_state.order
+    some_state.order)
+    (tallied_on z.limits s s views place (Worker v) (Worker w) (λ _. refl) at
+    (λ q. ap (λ xs. z.limits.likes - added_to q xs) same_adds) some_state.tallied)
     in (
-      record {
-        moment = moment_of z words views some_state;
-        place = place;
-        mine = at;
-        happen = record {
-          before = tt;
-          permits = permitted (here ∙ ap Runs now) old.there on same;
-          tells = subst (λ (n : ℕ). IsShownBy z s move (Count n)) (sym found) shown;
-        };
-        changed = word_of page;
-        word = count;
-        shows_after = subst (λ (t : CoreState). Shows z t (set words (word_of page) count)
-            (set views place (Worker w))) (sym stays) shows;
-        goes_on = subst (λ (t : CoreState). IsOrder z t (set views place (Worker w)) (Did step ∷ some_state.log))
-            (sym stays) order;
-      },
-      record {
-        state = s;
-        reachable = some_state.reachable;
-        shows = shows;
-        tallied = tallied_on z.limits s s views place (Worker v) (Worker w) (λ _. refl) at
-            (λ q. ap (λ xs. z.limits.likes - added_to q xs) same_adds)
-            some_state.tallied;
-        log = Did step ∷ some_state.log;
-        order = order;
-      },
+      told.0,
+      told.1,
       omega arith,
       omega (
         arith,
@@ -231,38 +212,6 @@ word_reads z words views place v w word some_state at rest fits slots =
     (counted_same z.counts views place (Worker v) (Worker w) sh.coord.counted at
     (λ k p. ap (λ (x : WorkerSeatView). added_before k p (additions_among x.did)) rest) sh.counted))
 
--- it leaves the order
-word_leaves_order : (z : Opening) (words : List ℕ) (views : List View) (place : ℕ) (v : WorkerSeatView)
-    (masks : List PhaseMask) (slots : List ℕ)
-    → (some_state : ShowsSome z words views)
-    → get_elem? views place ≡ some (Worker v)
-    → IsOrder z some_state.state (set views place (Worker (record v { masks = masks; slots = slots }))) some_state.log
-word_leaves_order z words views place v masks slots some_state at =
-    let w : WorkerSeatView = record v { masks = masks; slots = slots } in
-    other_step_keeps_order z some_state.state some_state.state views some_state.log place (Worker v) (Worker w) at
-    (same_worker v w refl refl refl) (omega arith) (λ _. refl) some_state.order
-
--- and so what the views show of some state
-word_read : (z : Opening) (words : List ℕ) (views : List View) (place : ℕ) (v : WorkerSeatView) (masks : List PhaseMask)
-    (slots : List ℕ) (word : ℕ)
-    → (some_state : ShowsSome z words views)
-    → get_elem? views place ≡ some (Worker v)
-    → Shows z some_state.state (set words word (get_or words word 0))
-    (set views place (Worker (record v { masks = masks; slots = slots })))
-    → ShowsSome z (set words word (get_or words word 0))
-    (set views place (Worker (record v { masks = masks; slots = slots })))
-word_read z words views place v masks slots word some_state at shows =
-    let s = some_state.state in
-    let w : WorkerSeatView = record v { masks = masks; slots = slots } in
-    record {
-      state = s;
-      reachable = some_state.reachable;
-      shows = shows;
-      tallied = tallied_on z.limits s s views place (Worker v) (Worker w) (λ _. refl) at (λ _. refl) some_state.tallied;
-      log = some_state.log;
-      order = word_leaves_order z words views place v masks slots some_state at;
-    }
-
 -- a read of the mask word that tells the phase's mask is the event
 tells_mask : (z : Opening) (words : List ℕ) (views : List View) (place : ℕ) (v : WorkerSeatView) (mask : ℕ)
     → (some_state : ShowsSome z words views)
@@ -274,15 +223,11 @@ tells_mask : (z : Opening) (words : List ℕ) (views : List View) (place : ℕ) 
 tells_mask z words views place v mask some_state at split_phase mask_is =
     let s = some_state.state in
     let sh = some_state.shows in
-    let i = v.worker in
     let w : WorkerSeatView = with_mask v mask in
     let old : FitsWorker z s v = sh.seats.each place (Worker v) at in
-    let runs = running_is IsSplit v.state split_phase in
-    let here : s.state i ≡ Runs runs.0 = old.state ∙ runs.1 in
-    let now : runs.0 ≡ s.phase = (moved_in_phase z s some_state.reachable).runs i runs.0 here in
-    let present : phase_of v.state ≡ s.phase = ap phase_of runs.1 ∙ now in
-    let odd : IsSplit s.phase = subst IsSplit now runs.2 in
-    let found_is : mask ≡ s.hot s.phase = mask_is ∙ sh.board.mask (inl odd) in
+    let now : RunsNow IsSplit z s v = runs_now IsSplit z words views place v some_state at split_phase in
+    let present : phase_of v.state ≡ s.phase = ap phase_of now.runs in
+    let found_is : mask ≡ s.hot s.phase = mask_is ∙ sh.board.mask (inl now.kind) in
     let P : PhaseMask → Type 0 = λ m. (m.phase ≤ s.phase) × (m.mask ≡ s.hot m.phase) in
     let fits : FitsWorker z s w =
     record {
@@ -296,24 +241,15 @@ tells_mask z words views place v mask some_state at split_phase mask_is =
       slots = λ _. refl;
     }
     in
-    let permits : Permits (numbers z s) (Hot i) =
-    record { there = old.there; suits = (here ∙ ap Runs now, odd); leaves_last = tt; room = tt }
-    in
-    let shows : Shows z s (set words mask_place (get_or words mask_place 0)) (set views place (Worker w)) =
-    word_reads z words views place v w mask_place some_state at refl fits refl
-    in (
-      record {
-        moment = moment_of z words views some_state;
-        place = place;
-        mine = at;
-        happen = record { before = tt; permits = permits; tells = ap HotShown found_is };
-        changed = mask_place;
-        word = get_or words mask_place 0;
-        shows_after = shows;
-        goes_on = word_leaves_order z words views place v w.masks w.slots some_state at;
-      },
-      word_read z words views place v w.masks w.slots mask_place some_state at shows,
-    )
+    steps_by z words views place mask_place (get_or words mask_place 0) (Worker v) (Worker w) (Hot v.worker)
+    (HotShown mask) s some_state at
+    (record {
+      before = tt;
+      permits = record { there = now.there; suits = (now.here, now.kind); leaves_last = tt; room = tt };
+      tells = ap HotShown found_is;
+    })
+    refl (word_reads z words views place v w mask_place some_state at refl fits refl)
+    (omega arith) (λ _. refl) (same_worker v w refl refl refl) (λ _. refl)
 
 -- on a board without slots the mask word is the mask
 pub reads_mask : (z : Opening) (words : List ℕ) (views : List View) (place : ℕ) (v : WorkerSeatView)
@@ -362,14 +298,10 @@ reads_slots z words views place v some_state at split_phase slotted all =
     let sh = some_state.shows in
     let found : ℕ = get_or words mask_place 0 in
     let same = read_all z s words views place v sh at all in
-    let old : FitsWorker z s v = sh.seats.each place (Worker v) at in
-    let runs = running_is IsSplit v.state split_phase in
-    let here : s.state v.worker ≡ Runs runs.0 = old.state ∙ runs.1 in
-    let now : runs.0 ≡ s.phase = (moved_in_phase z s some_state.reachable).runs v.worker runs.0 here in
-    let odd : IsSplit s.phase = subst IsSplit now runs.2 in
+    let now : RunsNow IsSplit z s v = runs_now IsSplit z words views place v some_state at split_phase in
     let lawful : IsChoice z.factor (length z.counts) (slice_index v.slots) found =
     choice-same z.factor (length z.counts) (slot_in words) (slice_index v.slots) found same
-    (sh.board.chosen (inl odd) slotted)
+    (sh.board.chosen (inl now.kind) slotted)
     in
     let told =
     tells_mask z words views place v (slots_read v found) some_state at split_phase
@@ -422,6 +354,13 @@ reads_slot z words views place v slot some_state at may =
     in (
       subst (λ (n : ℕ). n < 2 ^ 32) (sym found)
           (All-get_or (λ (n : ℕ). n < 2 ^ 32) sh.coord.slots slot 0 (omega arith) sh.slots_fit),
-      word_read z words views place v v.masks w.slots (slot_place slot) some_state at
-          (word_reads z words views place v w (slot_place slot) some_state at refl fits slots),
+      record {
+        state = s;
+        reachable = some_state.reachable;
+        shows = word_reads z words views place v w (slot_place slot) some_state at refl fits slots;
+        tallied = tallied_on z.limits s s views place (Worker v) (Worker w) (λ _. refl) at (λ _. refl) some_state.tallied;
+        log = some_state.log;
+        order = other_step_keeps_order z s s views some_state.log place (Worker v) (Worker w) at
+            (same_worker v w refl refl refl) (omega arith) (λ _. refl) some_state.order;
+      },
     )

@@ -1,5 +1,5 @@
 -- Each step of a worker is the event, and keeps what the board shows.
-use Rattle.std.proofs.Common.{◌≡◌, ◌≢◌, ℕ, ◌+◌, ◌%◌, ◌≤◌, nat_lt, Bool, true, false, cond, ◌⊎◌, inl, inr, IsTrue, ◌↔◌, MatchBool, List, [], ◌∷◌, length, get_or, set, subst, ap, sym, ◌∙◌, refl, arith}
+use Rattle.std.proofs.Common.{◌≡◌, ◌≢◌, ℕ, ◌+◌, ◌%◌, ◌<◌, ◌≤◌, nat_lt, Bool, true, false, cond, ◌⊎◌, inl, inr, IsTrue, ◌↔◌, MatchBool, List, [], ◌∷◌, length, get_or, set, subst, ap, sym, ◌∙◌, refl, arith}
 use Rattle.std.proofs.lemmas.Bool.{cond-true, cond-false, lt-ltb, le-ltb}
 use mathlib.Core.Option.{some}
 use lib.ListN.{get_elem?}
@@ -7,6 +7,7 @@ use Rattle.like_core.specs.declared.worker_state.WorkerState.{WorkerState}
 use Rattle.like_core.specs.declared.worker_state.WorkerState.TheVariants.{Runs, Answered, Gone}
 use Rattle.like_core.specs.declared.log.LogEntry.TheVariants.{Saw}
 use Rattle.like_core.specs.declared.sight.Sight.{Sight}
+use Rattle.like_core.specs.declared.event.Event.{Event}
 use Rattle.like_core.specs.declared.event.Event.TheVariants.{Look, Acknowledge, Report, Retire}
 use Rattle.like_core.specs.declared.shown.Shown.TheVariants.{Seen, Done}
 use Rattle.like_core.specs.declared.opening.Opening.{Opening}
@@ -16,23 +17,24 @@ use Rattle.like_core.specs.declared.view.View.TheVariants.{Worker}
 use Rattle.like_core.specs.Functions.{times}
 use Rattle.like_core.specs.Phase.{IsJoined, IsSplit}
 use Rattle.like_core.specs.WorkerState.{IsIn, looked, RunsSome, IsSightOf, seen, phase_of, IsRunning, RunsJoined, RunsSplit, SawEnding, running_sight}
-use Rattle.like_core.specs.word.Forms.{form_of}
+use Rattle.like_core.specs.word.Forms.{WordForm, form_of}
 use Rattle.like_core.specs.core.Numbers.{Sees}
-use Rattle.like_core.specs.core.Table.{Permits}
-use Rattle.like_core.specs.core.State.{CoreState, numbers}
-use Rattle.like_core.specs.core.Moves.{LetsReturn, MayReturn, Reached, after_return, comes_back}
+use Rattle.like_core.specs.core.Exclusive.{NoneUnmerged}
+use Rattle.like_core.specs.core.State.{CoreState, after, numbers}
+use Rattle.like_core.specs.core.Moves.{LetsReturn, MayReturn, after_return, comes_back, makes}
 use Rattle.like_core.specs.word.ShownWord.{shown_word}
 use Rattle.like_core.specs.views.Order.{IsOrder}
-use Rattle.like_core.specs.views.Shows.{Shows, ShowsSome, FitsWorker, IsEntry, IsStep}
-use Rattle.like_core.specs.views.Serves.{moved}
+use Rattle.like_core.specs.views.Shows.{Happen, Shows, ShowsSome, FitsWorker, IsEntry, IsStep}
+use Rattle.like_core.specs.views.Serves.{Serves, moved}
 use Rattle.like_core.proofs.Updates.{update-same}
-use Rattle.like_core.proofs.core.Moved.{moved_in_phase, moves_back, moves_by}
+use Rattle.like_core.proofs.core.Moved.{moved_in_phase}
 use Rattle.like_core.proofs.core.Staying.{looked_in}
 use Rattle.like_core.proofs.word.Serving.{even_runs, serves, worker_sees}
-use Rattle.like_core.proofs.views.KeptOrder.{look_keeps_order, other_step_keeps_order, same_worker}
+use Rattle.like_core.proofs.views.KeptOrder.{look_keeps_order, same_worker}
 use Rattle.like_core.specs.Post.{looked_at, answered, retired, returned}
 use Rattle.like_board.specs.Plays.{Looked, phase_at, sight_at}
-use Rattle.like_board.proofs.worker.Moves.{moment_of, one_seat, worker_moves}
+use Rattle.like_board.proofs.worker.Moves.{one_seat, worker_moves}
+use Rattle.like_board.proofs.Steps.{steps, steps_by}
 use Rattle.like_board.proofs.Tallying.{tallied_on}
 
 -- the phase that a worker runs
@@ -43,9 +45,33 @@ running_is P (Runs phase) h = (phase, refl, h)
 running_is P (Answered phase) h = absurd h
 running_is P Gone h = absurd h
 
--- a view whose worker runs a phase
-pub runs_view : (v : WorkerSeatView) (phase : ℕ) → v.state ≡ Runs phase → IsRunning v.state
-runs_view v phase is = subst (RunsSome (λ _. Unit {0})) (sym is) tt
+-- a worker that runs a phase of this kind runs the present one
+pub record RunsNow (P : ℕ → Type 0) (z : Opening) (s : CoreState) (v : WorkerSeatView) : Type 0 where
+  pub there : v.worker < z.workers
+  pub runs : v.state ≡ Runs s.phase
+  pub here : s.state v.worker ≡ Runs s.phase
+  pub kind : P s.phase
+  pub ending : SawEnding v.last → s.ending ≡ true
+
+pub runs_now : (P : ℕ → Type 0) (z : Opening) (words : List ℕ) (views : List View) (place : ℕ) (v : WorkerSeatView)
+    → (some_state : ShowsSome z words views)
+    → get_elem? views place ≡ some (Worker v)
+    → RunsSome P v.state
+    → RunsNow P z some_state.state v
+runs_now P z words views place v some_state at running =
+    let s = some_state.state in
+    let old : FitsWorker z s v = some_state.shows.seats.each place (Worker v) at in
+    let is = running_is P v.state running in
+    let now : is.0 ≡ s.phase =
+    (moved_in_phase z s some_state.reachable).runs v.worker is.0 (old.state ∙ is.1) in
+    let runs : v.state ≡ Runs s.phase = is.1 ∙ ap Runs now in
+    record {
+      there = old.there;
+      runs = runs;
+      here = old.state ∙ runs;
+      kind = subst P now is.2;
+      ending = old.ending (subst (RunsSome (λ _. Unit {0})) (sym runs) tt);
+    }
 
 not_true : (b : Bool) → (IsTrue b → ⊥) → b ≡ false
 not_true true no_ = absurd (no_ refl)
@@ -154,261 +180,132 @@ looks z words views place v some_state at there =
     (λ _. looked_in s.phase (s.state i))
     (λ _. looked_gone s.phase (s.state i))
     in
-    let permits : Permits (numbers z s) (Look i) =
-    record { there = old.there; suits = not_gone; leaves_last = tt; room = tt }
-    in
     let order : IsOrder z t (set views place (Worker w)) (Saw i sight.number ∷ some_state.log) =
     look_keeps_order z s t views some_state.log place v w sight.number at (one_seat z s words views place v sh at)
     sees.number (record { worker = refl; did = refl; logged = refl }) refl (λ _. refl) some_state.order
+    in
+    let step =
+    steps z words views place 0 found (Worker v) (Worker w) [] (makes (Look i)) (Seen sight) (Saw i sight.number ∷ []) t
+    some_state at
+    (record {
+      before = tt;
+      permits = record { there = old.there; suits = not_gone; leaves_last = tt; room = tt };
+      tells = (sight, refl, sees);
+    })
+    refl shows_after order
+    (tallied_on z.limits s t views place (Worker v) (Worker w) (λ _. refl) at (λ _. refl) some_state.tallied)
     in (
       record {
         can = subst (λ (st : WorkerState). IsSightOf st sight) old.state la.can;
         within = subst (λ (st : WorkerState). phase_of (seen st sight) ≤ z.limits.last_phase) old.state la.within;
         ending = λ runs saw. sees.ending ∙ old.ending runs saw;
-        step = record {
-          moment = moment_of z words views some_state;
-          place = place;
-          mine = at;
-          happen = record { before = tt; permits = permits; tells = (sight, refl, sees) };
-          changed = 0;
-          word = found;
-          shows_after = shows_after;
-          goes_on = order;
-        };
+        step = step.0;
       },
-      record {
-        state = t;
-        reachable = moves_by z s (Look i) some_state.reachable permits;
-        shows = shows_after;
-        tallied = tallied_on z.limits s t views place (Worker v) (Worker w) (λ _. refl) at (λ _. refl) some_state.tallied;
-        log = Saw i sight.number ∷ some_state.log;
-        order = order;
-      },
+      step.1,
     )
 
--- the word after an answer of worker i, and after it retired
-abbrev pub answered_word : Opening → ℕ → ℕ → ℕ
-answered_word z word i = (form_of z.limits.form).put word ((form_of z.limits.form).answer i)
+-- what a worker with this view puts into the phase word is the event, and its view after is the next
+pub record PutsIn (puts : WordForm → ℕ → ℕ) (event : ℕ → Event) (next : WorkerSeatView → WorkerSeatView)
+    (v : WorkerSeatView) : Type 0 where
+  pub each : (z : Opening) (words : List ℕ) (views : List View) (place : ℕ)
+      → ShowsSome z words views
+      → get_elem? views place ≡ some (Worker v)
+      → IsStep z (event v.worker) Done (Worker v) (Worker (next v))
+      × ShowsSome z
+      (set words 0 ((form_of z.limits.form).put (get_or words 0 0) (puts (form_of z.limits.form) v.worker)))
+      (set views place (Worker (next v)))
 
-abbrev pub retired_word : Opening → ℕ → ℕ → ℕ
-retired_word z word i = (form_of z.limits.form).put word ((form_of z.limits.form).retirement i)
-
--- what a worker that runs the present phase makes of the board by its answer
-answers : (z : Opening) (s : CoreState) (words : List ℕ) (views : List View) (place : ℕ) (v : WorkerSeatView)
-    (phase : ℕ)
-    → Reached z s
-    → Shows z s words views
-    → get_elem? views place ≡ some (Worker v)
-    → v.state ≡ Runs phase
-    → phase ≡ s.phase
-    → Shows z (moved s v.worker (Answered s.phase)) (set words 0 (answered_word z (get_or words 0 0) v.worker))
-    (set views place (Worker (answered v)))
-answers z s words views place v phase reached sh at runs present =
-    let i = v.worker in
-    let f = form_of z.limits.form in
-    let serving = serves z s sh.opening reached in
-    let old : FitsWorker z s v = sh.seats.each place (Worker v) at in
-    let here : s.state i ≡ Runs phase = old.state ∙ runs in
-    let state : WorkerState = Answered s.phase in
-    let fits : FitsWorker z (moved s i state) (answered v) =
-    record {
-      opening = old.opening;
-      there = old.there;
-      state = update-same s.state i state ∙ ap Answered (sym present ∙ sym (ap phase_of runs));
-      number = old.number;
-      ending = λ running _. absurd running;
-      masks = old.masks;
-      slots = λ _. refl;
-    }
-    in
-    worker_moves z s words views place v (answered v) state (answered_word z (get_or words 0 0) i) sh at refl
-    (ap (λ n. f.put n (f.answer i)) sh.board.phase ∙ sym (serving.answers i phase old.there here))
-    fits
-    refl
-    (λ _ is. absurd (subst (IsIn s.phase) here is))
-    (λ _ gone. absurd (cc))
+-- by the event a worker ends its run of a phase of this kind, and goes into this state
+ends_run : (P : ℕ → Type 0) (puts : WordForm → ℕ → ℕ) (event : ℕ → Event) (goes : ℕ → WorkerState) (v : WorkerSeatView)
+    → RunsSome P v.state
+    → ((z : Opening) (s : CoreState) → RunsNow P z s v → NoneUnmerged s → Happen z s [] (makes (event v.worker)) Done)
+    → ((z : Opening) (s : CoreState) → after z s (event v.worker) ≡ moved s v.worker (goes s.phase))
+    → ((z : Opening) (s : CoreState) → Serves (form_of z.limits.form) z s → RunsNow P z s v
+    → shown_word z (moved s v.worker (goes s.phase))
+    ≡ (form_of z.limits.form).put (shown_word z s) (puts (form_of z.limits.form) v.worker))
+    → ((phase : ℕ) → ¬ IsRunning (goes phase))
+    → ((phase : ℕ) → P phase → IsSplit phase → goes phase ≢ Gone)
+    → PutsIn puts event (λ u. record u { state = goes (phase_of u.state); slots = [] }) v
+ends_run P puts event goes v running happens leads serving ends stays = record {
+  each = λ z words views place some_state at.
+      let s = some_state.state in
+      let sh = some_state.shows in
+      let f = form_of z.limits.form in
+      let now : RunsNow P z s v = runs_now P z words views place v some_state at running in
+      let old : FitsWorker z s v = sh.seats.each place (Worker v) at in
+      let state : WorkerState = goes s.phase in
+      let w : WorkerSeatView = record v { state = goes (phase_of v.state); slots = [] } in
+      let word : ℕ = f.put (get_or words 0 0) (puts f v.worker) in
+      let fits : FitsWorker z (moved s v.worker state) w =
+      record {
+        opening = old.opening;
+        there = old.there;
+        state = update-same s.state v.worker state ∙ ap (λ (u : WorkerState). goes (phase_of u)) (sym now.runs);
+        number = old.number;
+        ending = λ runs _. absurd (ends (phase_of v.state) runs);
+        masks = old.masks;
+        slots = λ _. refl;
+      }
+      in
+      steps_by z words views place 0 word (Worker v) (Worker w) (event v.worker) Done (moved s v.worker state) some_state at
+      (happens z s now sh.merged) (leads z s)
+      (worker_moves z s words views place v w state word sh at refl
+      (ap (λ n. f.put n (puts f v.worker)) sh.board.phase ∙ sym (serving z s (serves z s sh.opening some_state.reachable) now))
+      fits
+      refl
+      (λ _ is. absurd (subst (IsIn s.phase) now.here is))
+      (λ split gone. absurd (stays s.phase now.kind split gone)))
+      (omega arith) (λ _. refl) (same_worker v w refl refl refl) (λ _. refl);
+}
 
 -- an acknowledgement is the event
-pub acknowledges : (z : Opening) (words : List ℕ) (views : List View) (place : ℕ) (v : WorkerSeatView)
-    → ShowsSome z words views
-    → get_elem? views place ≡ some (Worker v)
+pub acknowledges : (v : WorkerSeatView)
     → RunsJoined v.state
     → SawEnding v.last
-    → IsStep z (Acknowledge v.worker) Done (Worker v) (Worker (answered v))
-    × ShowsSome z (set words 0 (answered_word z (get_or words 0 0) v.worker))
-    (set views place (Worker (answered v)))
-acknowledges z words views place v some_state at joined saw =
-    let s = some_state.state in
-    let sh = some_state.shows in
-    let runs = running_is IsJoined v.state joined in
-    let old : FitsWorker z s v = sh.seats.each place (Worker v) at in
-    let here : s.state v.worker ≡ Runs runs.0 = old.state ∙ runs.1 in
-    let present : runs.0 ≡ s.phase = (moved_in_phase z s some_state.reachable).runs v.worker runs.0 here in
-    let ending : s.ending ≡ true = old.ending (runs_view v runs.0 runs.1) saw in
-    let permits : Permits (numbers z s) (Acknowledge v.worker) =
-    record {
-      there = old.there;
-      suits = (here ∙ ap Runs present, subst IsJoined present runs.2, ending);
-      leaves_last = tt;
-      room = tt;
-    }
-    in
-    let reaches = moves_by z s (Acknowledge v.worker) some_state.reachable permits in
-    let t : CoreState = moved s v.worker (Answered s.phase) in
-    let after_it = answers z s words views place v runs.0 some_state.reachable sh at runs.1 present in
-    let order : IsOrder z t (set views place (Worker (answered v))) some_state.log =
-    other_step_keeps_order z s t views some_state.log place (Worker v) (Worker (answered v)) at
-    (same_worker v (answered v) refl refl refl) (omega arith) (λ _. refl) some_state.order
-    in (
-      record {
-        moment = moment_of z words views some_state;
-        place = place;
-        mine = at;
-        happen = record { before = tt; permits = permits; tells = refl };
-        changed = 0;
-        word = answered_word z (get_or words 0 0) v.worker;
-        shows_after = after_it;
-        goes_on = order;
-      },
-      record {
-        state = t;
-        reachable = reaches;
-        shows = after_it;
-        tallied = tallied_on z.limits s t views place (Worker v) (Worker (answered v)) (λ _. refl) at (λ _. refl)
-            some_state.tallied;
-        log = some_state.log;
-        order = order;
-      },
-    )
+    → PutsIn (λ f. f.answer) Acknowledge answered v
+acknowledges v joined saw =
+    ends_run IsJoined (λ f. f.answer) Acknowledge Answered v joined
+    (λ z s now merged. record {
+      before = tt;
+      permits = record {
+        there = now.there;
+        suits = (now.here, now.kind, now.ending saw);
+        leaves_last = tt;
+        room = tt;
+      };
+      tells = refl;
+    })
+    (λ z s. refl) (λ z s serving now. serving.answers v.worker s.phase now.there now.here) (λ phase runs. runs)
+    (λ phase _ _ gone. cc)
 
 -- a report is the event
-pub reports : (z : Opening) (words : List ℕ) (views : List View) (place : ℕ) (v : WorkerSeatView)
-    → ShowsSome z words views
-    → get_elem? views place ≡ some (Worker v)
-    → RunsSplit v.state
-    → SawEnding v.last
-    → IsStep z (Report v.worker) Done (Worker v) (Worker (answered v))
-    × ShowsSome z (set words 0 (answered_word z (get_or words 0 0) v.worker))
-    (set views place (Worker (answered v)))
-reports z words views place v some_state at split saw =
-    let s = some_state.state in
-    let sh = some_state.shows in
-    let runs = running_is IsSplit v.state split in
-    let old : FitsWorker z s v = sh.seats.each place (Worker v) at in
-    let here : s.state v.worker ≡ Runs runs.0 = old.state ∙ runs.1 in
-    let present : runs.0 ≡ s.phase = (moved_in_phase z s some_state.reachable).runs v.worker runs.0 here in
-    let ending : s.ending ≡ true = old.ending (runs_view v runs.0 runs.1) saw in
-    let permits : Permits (numbers z s) (Report v.worker) =
-    record {
-      there = old.there;
-      suits = (
-        here ∙ ap Runs present,
-        subst IsSplit present runs.2,
-        ending,
-        λ page. ap (times page) (sh.merged v.worker),
-      );
-      leaves_last = tt;
-      room = tt;
-    }
-    in
-    let reaches = moves_by z s (Report v.worker) some_state.reachable permits in
-    let t : CoreState = moved s v.worker (Answered s.phase) in
-    let after_it = answers z s words views place v runs.0 some_state.reachable sh at runs.1 present in
-    let order : IsOrder z t (set views place (Worker (answered v))) some_state.log =
-    other_step_keeps_order z s t views some_state.log place (Worker v) (Worker (answered v)) at
-    (same_worker v (answered v) refl refl refl) (omega arith) (λ _. refl) some_state.order
-    in (
-      record {
-        moment = moment_of z words views some_state;
-        place = place;
-        mine = at;
-        happen = record { before = tt; permits = permits; tells = refl };
-        changed = 0;
-        word = answered_word z (get_or words 0 0) v.worker;
-        shows_after = after_it;
-        goes_on = order;
-      },
-      record {
-        state = t;
-        reachable = reaches;
-        shows = after_it;
-        tallied = tallied_on z.limits s t views place (Worker v) (Worker (answered v)) (λ _. refl) at (λ _. refl)
-            some_state.tallied;
-        log = some_state.log;
-        order = order;
-      },
-    )
+pub reports : (v : WorkerSeatView) → RunsSplit v.state → SawEnding v.last → PutsIn (λ f. f.answer) Report answered v
+reports v split saw =
+    ends_run IsSplit (λ f. f.answer) Report Answered v split
+    (λ z s now merged. record {
+      before = tt;
+      permits = record {
+        there = now.there;
+        suits = (now.here, now.kind, now.ending saw, λ page. ap (times page) (merged v.worker));
+        leaves_last = tt;
+        room = tt;
+      };
+      tells = refl;
+    })
+    (λ z s. refl) (λ z s serving now. serving.answers v.worker s.phase now.there now.here) (λ phase runs. runs)
+    (λ phase _ _ gone. cc)
 
 -- a retirement is the event
-pub retires : (z : Opening) (words : List ℕ) (views : List View) (place : ℕ) (v : WorkerSeatView)
-    → ShowsSome z words views
-    → get_elem? views place ≡ some (Worker v)
-    → RunsJoined v.state
-    → IsStep z (Retire v.worker) Done (Worker v) (Worker (retired v))
-    × ShowsSome z (set words 0 (retired_word z (get_or words 0 0) v.worker))
-    (set views place (Worker (retired v)))
-retires z words views place v some_state at joined =
-    let s = some_state.state in
-    let sh = some_state.shows in
-    let i = v.worker in
-    let runs = running_is IsJoined v.state joined in
-    let p = moved_in_phase z s some_state.reachable in
-    let f = form_of z.limits.form in
-    let serving = serves z s sh.opening some_state.reachable in
-    let old : FitsWorker z s v = sh.seats.each place (Worker v) at in
-    let here : s.state i ≡ Runs runs.0 = old.state ∙ runs.1 in
-    let present : runs.0 ≡ s.phase = p.runs i runs.0 here in
-    let even : IsJoined s.phase = subst IsJoined present runs.2 in
-    let fits : FitsWorker z (moved s i Gone) (retired v) =
-    record {
-      opening = old.opening;
-      there = old.there;
-      state = update-same s.state i Gone;
-      number = old.number;
-      ending = λ running _. absurd running;
-      masks = old.masks;
-      slots = λ _. refl;
-    }
-    in
-    let permits : Permits (numbers z s) (Retire i) =
-    record { there = old.there; suits = (here ∙ ap Runs present, even); leaves_last = tt; room = tt }
-    in
-    let reaches = moves_by z s (Retire i) some_state.reachable permits in
-    let after_it : Shows z (moved s i Gone) (set words 0 (retired_word z (get_or words 0 0) i))
-    (set views place (Worker (retired v))) =
-    worker_moves z s words views place v (retired v) Gone (retired_word z (get_or words 0 0) i) sh at refl
-    (ap (λ n. f.put n (f.retirement i)) sh.board.phase ∙ sym (serving.retires i runs.0 old.there here))
-    fits
-    refl
-    (λ _ is. absurd (subst (IsIn s.phase) here is))
-    (λ odd _. absurd (omega arith))
-    in
-    let order : IsOrder z (moved s i Gone) (set views place (Worker (retired v))) some_state.log =
-    other_step_keeps_order z s (moved s i Gone) views some_state.log place (Worker v) (Worker (retired v)) at
-    (same_worker v (retired v) refl refl refl) (omega arith) (λ _. refl) some_state.order
-    in (
-      record {
-        moment = moment_of z words views some_state;
-        place = place;
-        mine = at;
-        happen = record { before = tt; permits = permits; tells = refl };
-        changed = 0;
-        word = retired_word z (get_or words 0 0) i;
-        shows_after = after_it;
-        goes_on = order;
-      },
-      record {
-        state = moved s i Gone;
-        reachable = reaches;
-        shows = after_it;
-        tallied =
-            tallied_on z.limits s (moved s i Gone) views place (Worker v) (Worker (retired v))
-            (λ _. refl) at
-            (λ _. refl) some_state.tallied;
-        log = some_state.log;
-        order = order;
-      },
-    )
+pub retires : (v : WorkerSeatView) → RunsJoined v.state → PutsIn (λ f. f.retirement) Retire retired v
+retires v joined =
+    ends_run IsJoined (λ f. f.retirement) Retire (λ _. Gone) v joined
+    (λ z s now merged. record {
+      before = tt;
+      permits = record { there = now.there; suits = (now.here, now.kind); leaves_last = tt; room = tt };
+      tells = refl;
+    })
+    (λ z s. refl) (λ z s serving now. serving.retires v.worker s.phase now.there now.here) (λ phase runs. runs)
+    (λ phase joined split _. omega arith)
 
 -- a word without what was taken off it
 taken_word : (word taken after new found : ℕ) → after + taken ≡ word → new + taken ≡ found → found ≡ word → new ≡ after
@@ -470,28 +367,11 @@ returns z words views place v new some_state at gone lets even new_is =
     look_keeps_order z s t views some_state.log place v w phase at (one_seat z s words views place v sh at) present
     (record { worker = refl; did = refl; logged = refl }) refl (λ _. refl) some_state.order
     in
-    record {
-      within = subst (λ n. n ≤ z.limits.last_phase) (sym present) p.within;
-      step = record {
-        moment = moment_of z words views some_state;
-        place = place;
-        mine = at;
-        happen = record {
-          before = tt;
-          permits = may;
-          tells = ap (λ n. Seen (running_sight n)) present;
-        };
-        changed = 0;
-        word = new;
-        shows_after = shows_after;
-        goes_on = order;
-      };
-      shows = record {
-        state = t;
-        reachable = moves_back z s i some_state.reachable may;
-        shows = shows_after;
-        tallied = tallied_on z.limits s t views place (Worker v) (Worker w) (λ _. refl) at (λ _. refl) some_state.tallied;
-        log = Saw i phase ∷ some_state.log;
-        order = order;
-      };
-    }
+    let step =
+    steps z words views place 0 new (Worker v) (Worker w) [] (comes_back i) (Seen (running_sight phase))
+    (Saw i phase ∷ []) t some_state at
+    (record { before = tt; permits = may; tells = ap (λ n. Seen (running_sight n)) present })
+    refl shows_after order
+    (tallied_on z.limits s t views place (Worker v) (Worker w) (λ _. refl) at (λ _. refl) some_state.tallied)
+    in
+    record { within = subst (λ n. n ≤ z.limits.last_phase) (sym present) p.within; step = step.0; shows = step.1 }

@@ -7,7 +7,7 @@ use Rattle.like_core.specs.core.Table.{Permits}
 use Rattle.like_core.specs.core.State.{CoreState, start, after, numbers}
 use Rattle.like_core.specs.core.Reachable.{Reachable, PermitsAll}
 use Rattle.like_core.specs.Functions.{MayAll}
-use Rattle.like_core.specs.core.Moves.{Move, makes, comes_back, glances, LetsReturn, MayMove, MayReturn, NobodyReturns, Reached, after_move, after_return}
+use Rattle.like_core.specs.core.Moves.{Move, makes, comes_back, glances, LetsReturn, MayMove, MayReturn, NobodyReturns, Reached, after_move}
 use Rattle.like_core.specs.core.Exclusive.{IsInPhase, ReachedIsExclusive}
 use Rattle.like_core.proofs.core.InPhase.{exclusive, keeps_in_phase, return_in_phase, start_in_phase}
 use Rattle.like_core.proofs.core.Reached.{MayAll-append, start_reached, goes_on_by}
@@ -17,7 +17,7 @@ pub moves_begin : (z : Opening) → Reached z (start z)
 moves_begin z = record { moves = []; may = tt; reached = refl }
 
 -- after one move more, the state is reached too
-moves_on : (z : Opening) (s : CoreState) (move : Move)
+pub moves_on : (z : Opening) (s : CoreState) (move : Move)
     → Reached z s
     → MayMove z s move
     → Reached z (after_move z s move)
@@ -44,10 +44,6 @@ pub moves_by_all : (z : Opening) (s : CoreState) (events : List Event)
 moves_by_all z s [] r may = r
 moves_by_all z s (event ∷ events) r may =
     moves_by_all z (after z s event) events (moves_by z s event r may.0) may.1
-
--- after a worker came back
-pub moves_back : (z : Opening) (s : CoreState) (i : ℕ) → Reached z s → MayReturn z s i → Reached z (after_return s i)
-moves_back z s i r may = moves_on z s (comes_back i) r may
 
 -- each move keeps the state in phase
 move_in_phase : (z : Opening) (s : CoreState) (move : Move)

@@ -18,7 +18,7 @@ use Rattle.like_promises.specs.Likes.{likes, likes_among}
 use Rattle.like_promises.specs.Store.{Ask, like, look, refuse}
 use Rattle.like_promises.specs.Workload.{Workload, nth, request_at, submitters}
 use Rattle.like_roles.proofs.counts.Tallied.{likes_among-append, page_likes}
-use Rattle.like_crew.proofs.lists.Sums.{sum-of-map}
+use Rattle.like_core.proofs.Lists.{sum-of-map}
 
 -- a fact of each element is one of that at a place
 got : {A : Type 0} (P : A → Type 0) (xs : List A) (k : ℕ) (x : A) → All P xs → slice_get xs k ≡ Some x → P x

@@ -36,10 +36,10 @@ use Rattle.like_promises.specs.EndToEnd.{runs_of}
 use Rattle.like_crew.specs.Outcome.{IsOutcome, IsSeatLike}
 use Rattle.like_crew.specs.Server.{IsLogOf, ServerView}
 use Rattle.like_promises.specs.places.Tiling.{all_noted}
+use Rattle.like_core.proofs.Lists.{sum-of-map}
 use Rattle.like_crew.proofs.additions.AddedPages.{adds-there, none-liked}
 use Rattle.like_crew.proofs.additions.AddedPhases.{of-likes-same, ran-within}
 use Rattle.like_crew.proofs.lists.Pairs.{pairs-sum, pairs-then}
-use Rattle.like_crew.proofs.lists.Sums.{sum-of-map}
 use Rattle.like_crew.proofs.Hot.{count-before}
 use Rattle.like_crew.proofs.servers.Finishing.{IsLogFor}
 use Rattle.like_crew.proofs.Whole.{HasCounted, HaveMasks, SawNoneLater, all-before, all-likes, at-post, hot_known, initial-at, joined, known, left-at, logs-are, masks-known, posts, right, served, server-at, z}

@@ -1,17 +1,7 @@
 -- Two lists that match place by place.
-use Rattle.std.proofs.Common.{◌≡◌, ℕ, zero, suc, ◌+◌, ◌<◌, List, [], ◌∷◌, ◌++◌, length, get_or, slice_get, Some, refl, sym, ap, subst, arith, add-zero, add-one}
+use Rattle.std.proofs.Common.{◌≡◌, ℕ, zero, suc, ◌+◌, ◌<◌, List, [], ◌∷◌, length, get_or, slice_get, Some, refl, sym, ap, subst, arith, add-zero, add-one}
 use Rattle.std.specs.List.{AllZip, range_with_len, sum_by}
 use Rattle.std.proofs.lemmas.List.Sums.{sum_by-cons}
-
--- one more pair that matches
-pub pairs-more : {A B : Type 0} (R : A → B → Type 0) (xs : List A) (ys : List B) (x : A) (y : B)
-    → AllZip R xs ys
-    → R x y
-    → AllZip R (xs ++ x ∷ []) (ys ++ y ∷ [])
-pairs-more R [] [] x y h last = (last, tt)
-pairs-more R [] (b ∷ bs) x y h last = absurd h
-pairs-more R (a ∷ more) [] x y h last = absurd h
-pairs-more R (a ∷ more) (b ∷ bs) x y h last = (h.0, pairs-more R more bs x y h.1 last)
 
 -- lists that match have one length
 pub pairs-length : {A B : Type 0} (R : A → B → Type 0) (xs : List A) (ys : List B)

@@ -23,8 +23,8 @@ use Rattle.like_promises.specs.Workload.{Workload, nth, request_at}
 use Rattle.like_roles.specs.worker.Turns.{CanGive, Gives, HasTaken, IsNext, Pends, TakesNothing, Turns, with_taken}
 use Rattle.like_requests.specs.Setup.{IsThere}
 use Rattle.like_roles.specs.worker.WorkerView.{WorkerView, phase_at, submitter_at}
-use Rattle.like_crew.specs.Server.{numbers_taken}
 use Rattle.like_crew.specs.Server.{Agree, AgreesAt, AreOwnPlans, ReadMasksOf, ServerView, WorksFor, numbers_given, plans_of, requests_taken}
+use Rattle.like_promises.specs.Log.{numbers_taken}
 use Rattle.like_crew.proofs.lists.Stepped.{slice_get-set_other, slice_get-set_same}
 use Rattle.like_crew.proofs.servers.Numbers.{count-taken, given-own, numbers-next, numbers-same}
 use Rattle.like_crew.proofs.servers.Shares.{plan-at}

@@ -25,8 +25,7 @@ use Rattle.like_promises.specs.declared.log.WorkerLog.{WorkerLog}
 use Rattle.like_roles.specs.worker.Follows.{AreNoted, IsDone}
 use Rattle.like_promises.specs.Workload.{Workload}
 use Rattle.like_roles.specs.worker.WorkerView.{WorkerView, phase_at}
-use Rattle.like_promises.specs.Log.{IsLog, TakesPlans}
-use Rattle.like_crew.specs.Server.{numbers_taken}
+use Rattle.like_promises.specs.Log.{IsLog, TakesPlans, numbers_taken}
 use Rattle.like_crew.specs.Server.{NoneAbove, Agree, AreInboxesFor, IsLogOf, ReadMasksOf, WorksFor, ServerView, plans_of, requests_taken}
 use Rattle.like_crew.proofs.servers.Shares.{plan-at}
 use Rattle.like_crew.proofs.servers.Numbers.{own-place}

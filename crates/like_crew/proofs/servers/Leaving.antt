@@ -7,7 +7,8 @@ use Rattle.like_core.specs.declared.worker_state.WorkerState.TheVariants.{Gone}
 use Rattle.like_promises.specs.declared.log.WorkerLog.{WorkerLog}
 use Rattle.like_crew.specs.Ended.{HasLeft, HaveLeft, IsSeatOf}
 use Rattle.like_crew.specs.Server.{IsLogOf, ServerGoesOn, ServerView}
-use Rattle.like_crew.proofs.lists.Pairs.{pairs-length, pairs-more}
+use Rattle.like_promises.proofs.Lists.{AllZip-more}
+use Rattle.like_crew.proofs.lists.Pairs.{pairs-length}
 
 -- a fact of one element
 pub all-one : {A : Type 0} (P : A → Type 0) (x : A) → P x → All P (x ∷ [])
@@ -26,13 +27,13 @@ pub one-left : (first more : List ServerView) (logs logs_more : List WorkerLog) 
 one-left first more logs logs_more seats seats_more s log seat firsts_are logs_are seats_are h one = record {
   servers = servers;
   later = subst (λ xs. AllZip ServerGoesOn xs servers) (sym firsts_are)
-      (pairs-more ServerGoesOn first h.servers s one.server h.later one.later);
+      (AllZip-more ServerGoesOn first h.servers s one.server h.later one.later);
   gone = All-append (λ (x : ServerView). x.worker.post.state ≡ Gone) h.servers (one.server ∷ []) h.gone
       (all-one (λ (x : ServerView). x.worker.post.state ≡ Gone) one.server one.gone);
   logs_are = subst (AllZip IsLogOf servers) (sym logs_are)
-      (pairs-more IsLogOf h.servers logs one.server log h.logs_are one.log_is);
+      (AllZip-more IsLogOf h.servers logs one.server log h.logs_are one.log_is);
   seats_are = subst (AllZip IsSeatOf servers) (sym seats_are)
-      (pairs-more IsSeatOf h.servers seats one.server seat h.seats_are one.seat_is);
+      (AllZip-more IsSeatOf h.servers seats one.server seat h.seats_are one.seat_is);
 } where
   servers : List ServerView
   servers = h.servers ++ one.server ∷ []

@@ -13,7 +13,7 @@ use Rattle.std.proofs.lemmas.Nat.{div-mul-add, mod-mul-add}
 use Rattle.like_queue.specs.Inbox.{InboxView}
 use Rattle.like_tables.specs.Share.{Share, rank_of, serves}
 use Rattle.like_promises.specs.declared.log.Took.{Took}
-use Rattle.like_crew.specs.Server.{numbers_taken}
+use Rattle.like_promises.specs.Log.{numbers_taken}
 use Rattle.like_crew.proofs.lists.Stepped.{slice_get-set_other, slice_get-set_same}
 use Rattle.like_crew.specs.Server.{numbers_given, requests_taken}
 

@@ -4,7 +4,7 @@ use Rattle.like_core.specs.declared.opening.Opening.{Opening}
 use Rattle.like_core.specs.declared.view.View.{View}
 use Rattle.like_core.specs.views.Layout.{word_of}
 use Rattle.like_board.specs.Own.{own_coord, own_opening, own_views}
-use Rattle.like_board.proofs.Fresh.{coord_opens}
+use Rattle.like_board.proofs.worker.Moves.{coord_opens}
 use Rattle.like_board.proofs.OwnClosing.{closes_own}
 use Rattle.like_board.proofs.own_board.OwnBoard.close.Goals as goal
 

@@ -1,6 +1,7 @@
 use Rattle.std.proofs.Common.{ap, ◌∙◌}
 use Rattle.like_core.specs.word.Forms.{form_of}
-use Rattle.like_board.proofs.Allowed.{retiring}
+use Rattle.like_board.proofs.Allowed.{putting_in}
+use Rattle.like_board.proofs.worker.WorkerSteps.{retires}
 use Rattle.like_board.proofs.worker_seat.WorkerSeat.retire.Goals as goal
 
 pub put_answer-requires : goal.put_answer-requires
@@ -8,6 +9,6 @@ put_answer-requires c =
     let seat = c.args.self.now in
     record {
       here = c.requires.here;
-      allowed = retiring c.args.board.now.table.shared.key _ _ _ _ _ seat.formed
-          (c.retirement-retirement.ensures ∙ ap (form_of seat.form).retirement seat.numbered) seat.is_worker c.requires.runs;
+      allowed = putting_in c.args.board.now.table.shared.key _ _ _ _ _ (retires _ c.requires.runs)
+          seat.formed (c.retirement-retirement.ensures ∙ ap (form_of seat.form).retirement seat.numbered) seat.is_worker;
     }

@@ -1,15 +1,10 @@
 -- Why a shared service's handle may go to another thread.
-use denote.Struct.Struct.{exits_of}
-use denote.Struct.Owning.{shape, fields, to}
-use denote.Param.Send.{IsSend, AllSend, owning_send, struct_send, sendable}
-use Rattle.std_alloc.proofs.SendSync.{quiet}
+use denote.Param.Send.{IsSend, sendable}
+use Rattle.std.proofs.Common.{refl}
 use Rattle.like_c.proofs.boxed_shared.BoxedShared.TheSendSync.{the_send as home}
 use Rattle.like_c.specs.contracts.boxed_shared.BoxedShared as Home
 use Rattle.like_c.specs.contracts.shared_handle.SharedHandle.{the_row, the_type}
-use Rattle.like_c.proofs.Handle.Sends.{keyless}
+use Rattle.like_c.proofs.Handle.Sends.{handle_sends, keyless}
 
 pub send : IsSend the_row
-send =
-    let all : AllSend (fields the_type) = (search sendable, tt) in
-    owning_send the_type all (λ d. keyless Home.the_row home d.at d.home)
-    (λ k. quiet (to the_type) (exits_of k (fields the_type)) ((struct_send (shape the_type) all).leaving k))
+send = handle_sends the_type (search sendable, tt) (λ d. keyless Home.the_row home d.at d.home) (λ k. refl)

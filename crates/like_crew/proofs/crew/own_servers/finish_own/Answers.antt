@@ -8,7 +8,7 @@ use Rattle.like_core.specs.declared.worker_state.WorkerState.TheVariants.{Gone}
 use Rattle.like_crew.specs.OwnCrew.{IsOwnSeatOf, servers_of}
 use Rattle.like_crew.specs.OwnServer.{OwnServerView}
 use Rattle.like_crew.specs.Server.{IsLogOf, ServerView}
-use Rattle.like_crew.proofs.lists.Pairs.{pairs-more}
+use Rattle.like_promises.proofs.Lists.{AllZip-more}
 use Rattle.like_crew.proofs.servers.Seated.{server-at}
 use Rattle.like_crew.proofs.crew.own_servers.finish_own.Goals as goal
 
@@ -43,10 +43,10 @@ loop-server-preserved g c =
       logs = subst (AllZip IsLogOf (servers_of (l.yielded ++ s ∷ []))) (sym c.in_ok-push.ensures.items)
           (subst (λ ss. AllZip IsLogOf ss (l.logs.items ++ c.finish-log.result.0 ∷ []))
           (sym (map_push (λ (x : OwnServerView). x.server) l.yielded s))
-          (pairs-more IsLogOf (servers_of l.yielded) l.logs.items s.server c.finish-log.result.0 l.invariant.logs
+          (AllZip-more IsLogOf (servers_of l.yielded) l.logs.items s.server c.finish-log.result.0 l.invariant.logs
           told.log));
       seats = subst (AllZip IsOwnSeatOf (l.yielded ++ s ∷ [])) (sym c.in_ok-push-2.ensures.items)
-          (pairs-more IsOwnSeatOf l.yielded l.seats.items s seat l.invariant.seats
+          (AllZip-more IsOwnSeatOf l.yielded l.seats.items s seat l.invariant.seats
           (record { view = told.seat; place = told.place }));
     }
 

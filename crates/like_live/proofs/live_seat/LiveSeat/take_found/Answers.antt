@@ -5,7 +5,7 @@ use Rattle.like_live.specs.declared.asked.Found.{Found}
 use Rattle.like_live.specs.Calls.{TakesFound}
 use Rattle.like_live.specs.LiveView.{LiveView, RanNext, live_of}
 use Rattle.like_live.specs.LookRoom.{RoomView}
-use Rattle.like_live.proofs.Finding.{first_of, none_first}
+use Rattle.like_core.proofs.Lists.{first_of, none_first}
 use Rattle.like_live.proofs.Requests.{after-taken}
 use Rattle.like_live.proofs.live_seat.LiveSeat.take_found.Goals as goal
 

@@ -2,7 +2,8 @@ use Rattle.std.proofs.Common.{◌≡◌, List, drop, length, ap, refl, sym, subs
 use Rattle.like_tables.specs.StashView.{StashView}
 use Rattle.like_live.specs.declared.asked.Found.{Found}
 use Rattle.like_live.specs.LiveView.{live_of}
-use Rattle.like_live.proofs.Finding.{Finding-first, Finding-next, Finding-ran, Finding-start, joined_phase, Finding-end, Finding-joined, Finding-room, first_of, none_first, plain, running}
+use Rattle.like_core.proofs.Lists.{first_of, none_first}
+use Rattle.like_live.proofs.Finding.{Finding-first, Finding-next, Finding-ran, Finding-start, joined_phase, Finding-end, Finding-joined, Finding-room, plain, running}
 use Rattle.like_seat.specs.StationView.{StationView}
 use Rattle.like_live.specs.declared.asked.Asked.{Asked}
 use Rattle.like_live.specs.Moves.{FindsAll}

@@ -9,7 +9,8 @@ use Rattle.like_core.proofs.views.Apart.{word_of-order}
 use Rattle.like_board.specs.Known.{coord_view_of}
 use Rattle.like_board.specs.Own.{own_opening, own_views, own_coord}
 use Rattle.like_board.proofs.Allowed.{counting}
-use Rattle.like_board.proofs.Fresh.{present_count, coord_opens}
+use Rattle.like_board.proofs.Fresh.{present_count}
+use Rattle.like_board.proofs.worker.Moves.{coord_opens}
 use Rattle.like_board.proofs.own_board.coord_seat.OwnCoordSeat.count.Goals as goal
 
 pub load-requires : goal.load-requires

@@ -5,7 +5,8 @@ use Rattle.own_table.specs.Table.{key_of, words_of}
 use Rattle.like_core.proofs.views.Apart.{word_of-past}
 use Rattle.like_board.specs.Own.{ShowsWorkers, own_coord, own_opening, own_views}
 use Rattle.like_board.proofs.Allowed.{surveying}
-use Rattle.like_board.proofs.Fresh.{coord_opens, coord_sight_is, shows_workers}
+use Rattle.like_board.proofs.Fresh.{coord_sight_is, shows_workers}
+use Rattle.like_board.proofs.worker.Moves.{coord_opens}
 use Rattle.like_board.proofs.own_board.coord_seat.OwnCoordSeat.look.Goals as goal
 
 pub load-word-requires : goal.load-word-requires

@@ -9,7 +9,8 @@ use Rattle.like_core.proofs.views.Apart.{word_of-order}
 use Rattle.like_board.specs.Known.{worker_view_of}
 use Rattle.like_board.specs.Own.{own_opening, own_views, own_view}
 use Rattle.like_board.proofs.Allowed.{adding_to}
-use Rattle.like_board.proofs.Fresh.{present_count, worker_opens}
+use Rattle.like_board.proofs.Fresh.{present_count}
+use Rattle.like_board.proofs.worker.Moves.{worker_opens}
 use Rattle.like_board.proofs.own_board.worker_seat.OwnWorkerSeat.add.Goals as goal
 
 pub fetch_add-requires : goal.fetch_add-requires

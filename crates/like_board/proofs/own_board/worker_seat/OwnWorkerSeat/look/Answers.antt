@@ -4,7 +4,8 @@ use Rattle.own_table.specs.Table.{key_of, words_of}
 use Rattle.like_core.proofs.views.Apart.{word_of-past}
 use Rattle.like_board.specs.Own.{ShowsPhase, own_opening, own_view, own_views}
 use Rattle.like_board.proofs.Allowed.{looking}
-use Rattle.like_board.proofs.Fresh.{shows_phase, sight_is, worker_opens}
+use Rattle.like_board.proofs.Fresh.{shows_phase, sight_is}
+use Rattle.like_board.proofs.worker.Moves.{worker_opens}
 use Rattle.like_board.proofs.own_board.worker_seat.OwnWorkerSeat.look.Goals as goal
 
 pub load-word-requires : goal.load-word-requires

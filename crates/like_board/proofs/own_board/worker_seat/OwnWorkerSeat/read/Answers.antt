@@ -9,7 +9,8 @@ use Rattle.like_core.proofs.views.Apart.{word_of-order}
 use Rattle.like_board.specs.Known.{worker_view_of}
 use Rattle.like_board.specs.Own.{own_opening, own_views, own_view}
 use Rattle.like_board.proofs.Allowed.{reading}
-use Rattle.like_board.proofs.Fresh.{present_count, worker_opens}
+use Rattle.like_board.proofs.Fresh.{present_count}
+use Rattle.like_board.proofs.worker.Moves.{worker_opens}
 use Rattle.like_board.proofs.own_board.worker_seat.OwnWorkerSeat.read.Goals as goal
 
 pub load-requires : goal.load-requires

@@ -16,7 +16,8 @@ use Rattle.like_roles.specs.worker.Serve.{Runs}
 use Rattle.like_roles.specs.worker.Turns.{acknowledges, retires, runs_stashed, tries_joined}
 use Rattle.like_roles.specs.worker.Work.{worker_at}
 use Rattle.like_roles.specs.worker.WorkerView.{IsNextOpen, TookAllEnds}
-use Rattle.like_roles.proofs.Held.{first_of, none_first, settled-pop, sound-stopped, sound-tried, tried-joined, view_of-tried}
+use Rattle.like_core.proofs.Lists.{first_of, none_first}
+use Rattle.like_roles.proofs.Held.{settled-pop, sound-stopped, sound-tried, tried-joined, view_of-tried}
 use Rattle.like_roles.proofs.worker.tasks.Work.joined_turn.Goals as goal
 
 -- a station whose first stashed request was taken out, where it had none, is as before
