@@ -8,9 +8,9 @@ use Rattle.std.proofs.lemmas.Nat.{pow_pos}
 use Rattle.std.proofs.lemmas.Nat.Bits.{bit_at_ones, bit_at_ones_above}
 use Rattle.std.proofs.Math.Nat.{pow-le-pow_right}
 use Rattle.like_limits.specs.Limits.{hot_pages}
-use Rattle.like_limits.specs.Buckets.{bucket}
+use Rattle.like_limits.specs.Buckets.{AreApart, bucket}
 use Rattle.like_core.specs.Functions.{has_bit}
-use Rattle.like_choice.specs.Slots.{AreApart, AreSlots, new_slots}
+use Rattle.like_choice.specs.Slots.{AreSlots, new_slots}
 
 -- of the lowest bits, so many are set
 low-used : (many slot : ℕ) → has_bit (2 ^ many - 1) slot ≡ true → slot < many

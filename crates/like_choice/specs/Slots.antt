@@ -15,11 +15,6 @@ pub record SlotsView : Type 0 where
   pub slots : List ℕ
   pub bits : ℕ
 
--- no two of these pages share a bucket
-abbrev pub AreApart : ℕ → List ℕ → Type 0
-AreApart factor pages = (i j : ℕ) → i < length pages → j < length pages
-    → bucket factor (slice_index pages i) ≡ bucket factor (slice_index pages j) → i ≡ j
-
 -- the slots of a new service: only the marked pages have one
 abbrev pub new_slots : ℕ → ℕ → List ℕ → SlotsView
 new_slots factor pages marks = record {

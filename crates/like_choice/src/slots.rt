@@ -1,7 +1,7 @@
 ghost use Rattle.std.specs.Prelude.{◌≡◌, ◌<◌, ◌≤◌, All, length, slice_index, drop, take};
-ghost use Rattle.like_limits.specs.Buckets.{bucket, buckets};
+ghost use Rattle.like_limits.specs.Buckets.{AreApart, bucket, buckets};
 ghost use Rattle.like_limits.specs.Limits.{hot_pages};
-ghost use Rattle.like_choice.specs.Slots.{AreApart, AreSlots, Chooses, new_slots, pages_in_use, would_use};
+ghost use Rattle.like_choice.specs.Slots.{AreSlots, Chooses, new_slots, pages_in_use, would_use};
 
 mod fill;
 mod kept;

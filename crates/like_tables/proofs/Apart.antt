@@ -1,8 +1,7 @@
 -- Pages that are told apart by their buckets, one after the other.
 use Rattle.std.proofs.Common.{◌≡◌, ◌≢◌, ℕ, ◌+◌, ◌<◌, ◌≤◌, Bool, true, false, List, length, get_or, set, inl, inr, sym, ap, ◌∙◌, arith, get_or-set_same, get_or-set_other}
 use Rattle.std.proofs.lemmas.Bool.{cases_lt, cases_eq}
-use Rattle.like_limits.specs.Buckets.{bucket, buckets}
-use Rattle.like_tables.specs.Factors.{AreApart}
+use Rattle.like_limits.specs.Buckets.{AreApart, bucket, buckets}
 use Rattle.like_tables.proofs.Tagged.{bucket-lt}
 
 -- the bucket of the page at a place

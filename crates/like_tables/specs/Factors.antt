@@ -1,12 +1,6 @@
 -- The factor of a service's buckets.
-use Rattle.std.specs.Prelude.{◌≡◌, ℕ, ◌+◌, ◌*◌, ◌%◌, ◌^◌, ◌<◌, ◌≤◌, List, length, slice_index}
-use Rattle.like_limits.specs.Buckets.{bucket}
-
--- no two of these pages share a bucket
-abbrev pub AreApart : ℕ → List ℕ → Type 0
-AreApart factor pages =
-    (i j : ℕ) → i < length pages → j < length pages
-    → bucket factor (slice_index pages i) ≡ bucket factor (slice_index pages j) → i ≡ j
+use Rattle.std.specs.Prelude.{◌≡◌, ℕ, ◌+◌, ◌*◌, ◌%◌, ◌^◌, ◌<◌, ◌≤◌, List}
+use Rattle.like_limits.specs.Buckets.{AreApart}
 
 -- how many factors are tried
 abbrev pub max_tries : ℕ

@@ -1,5 +1,6 @@
 ghost use Rattle.std.specs.Prelude.{◌↔◌, IfNone, IfSome, IsTrue};
-ghost use Rattle.like_tables.specs.Factors.{AreApart, IsFirstApart, NoneParts, max_tries};
+ghost use Rattle.like_limits.specs.Buckets.{AreApart};
+ghost use Rattle.like_tables.specs.Factors.{IsFirstApart, NoneParts, max_tries};
 
 use like_limits::bucket;
 

@@ -5,7 +5,8 @@ ghost use Rattle.like_core.specs.OpeningLimits.{service_limits};
 ghost use Rattle.like_core.specs.Phase.{IsJoined};
 ghost use Rattle.like_core.specs.views.Views.{SawAllIn};
 ghost use Rattle.like_seat.specs.Lead.{PublishesChoice};
-ghost use Rattle.like_choice.specs.Slots.{AreApart, AreSlots, Chooses, pages_in_use};
+ghost use Rattle.like_limits.specs.Buckets.{AreApart};
+ghost use Rattle.like_choice.specs.Slots.{AreSlots, Chooses, pages_in_use};
 ghost use Rattle.like_live.specs.Splits.{AreSplitsOf, Proposes, SawRunning, new_splits, would_split};
 
 use like_board::Board;

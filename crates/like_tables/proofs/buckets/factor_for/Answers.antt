@@ -1,6 +1,7 @@
 use Rattle.std.proofs.Common.{◌≡◌, inl, inr, subst, arith}
 use Rattle.std.proofs.lemmas.Bool.{cases_lt, iff_false}
-use Rattle.like_tables.specs.Factors.{AreApart, factor_at}
+use Rattle.like_limits.specs.Buckets.{AreApart}
+use Rattle.like_tables.specs.Factors.{factor_at}
 use Rattle.like_tables.proofs.buckets.factor_for.Goals as goal
 
 pub loop-tries-preserved : goal.loop-tries-preserved
