@@ -11,6 +11,7 @@ use Rattle.like_records.specs.Rows.{Record}
 use Rattle.like_requests.specs.declared.request.Request.{Request}
 use Rattle.like_requests.specs.declared.requests_file.RequestsFault.{RequestsFault}
 use Rattle.like_requests.specs.declared.requests_file.RequestsFault.TheVariants.{Memory}
+use Rattle.like_promises.proofs.Lists.{AllZip-more}
 use Rattle.like_replies.proofs.Lists.{AllZip-by_place}
 use Rattle.like_files.specs.Inputs.{GivesPlan, GivesPlans, OfRecords, RefusesPlan, RefusesPlans}
 use Rattle.like_files.specs.Plans.{AddsPlan, Answer, IsFirstStop, Stops}
@@ -26,16 +27,6 @@ of_records source P Q (Ok x) h = h
 of_records source P Q (Err e) h = h
 
 -- ---- lists that match
-
--- one more pair that matches
-pub AllZip-more : {A B : Type 0} (R : A → B → Type 0) (xs : List A) (ys : List B) (x : A) (y : B)
-    → AllZip R xs ys
-    → R x y
-    → AllZip R (xs ++ x ∷ []) (ys ++ y ∷ [])
-AllZip-more R [] [] x y h last = (last, tt)
-AllZip-more R [] (b ∷ bs) x y h last = absurd h
-AllZip-more R (a ∷ more) [] x y h last = absurd h
-AllZip-more R (a ∷ more) (b ∷ bs) x y h last = (h.0, AllZip-more R more bs x y h.1 last)
 
 -- the first pairs match
 AllZip-take : {A B : Type 0} (R : A → B → Type 0) (n : ℕ) (xs : List A) (ys : List B)
