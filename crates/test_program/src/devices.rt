@@ -1,5 +1,5 @@
 //! Readers and writers that fail, by `replay_files`.
-use super::replays::{assert_done, assert_fault, assert_that, fault_of, list_of};
+use super::replays::{assert_done, assert_fault, fault_of, list_of};
 use like_files::DriverFault;
 use like_requests::{PagesFault, RequestsFault};
 use std::alloc::Global;
@@ -133,7 +133,7 @@ fn failing_writes(rt: HostRuntime) {
         assert_writes_fail(&rt, rt.alloc(), settings, length);
         assert_flushes_fail(&rt, rt.alloc(), settings, flushes);
     }
-    assert_that(&rt, DriverFault::Write.status() == 3, "another status");
+    assert_eq!(rt; DriverFault::Write.status(), 3);
 }
 
 // A writer that takes no byte is at fault at its first write.
@@ -152,7 +152,7 @@ fn no_byte_written_is_a_fault(rt: HostRuntime) {
         &mut out,
     );
     assert_fault(&rt, fault, DriverFault::Write, 0);
-    assert_that(&rt, out.writes_left() == 8, "more than one write");
+    assert_eq!(rt; out.writes_left(), 8);
 }
 
 // A write that is interrupted is made again.

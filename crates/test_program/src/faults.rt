@@ -1,5 +1,5 @@
 //! The line of each fault, and what the program tells of it.
-use super::replays::{assert_that, options_of};
+use super::replays::{assert_text, assert_that, options_of};
 use like_command::Options;
 use like_files::DriverFault;
 use like_program::{ProgramFault, tell};
@@ -83,18 +83,23 @@ fn of_script() -> &'static [(DriverFault, &'static str)] {
 fn assert_line(rt: &impl Abort, alloc: Global, options: &Options, fault: DriverFault, want: &str) {
     let mut line = Vec::new(alloc);
     assert_that(rt, fault.line(options, &mut line), "memory");
-    assert_that(rt, line.as_slice() == want.as_bytes(), want);
+    assert_text(rt, &line, want);
     for writes in 0..=want.len() {
         let is_written = fault.line(options, &mut Narrow::new(1, writes, true));
-        assert_that(rt, is_written == (writes == want.len()), want);
+        let is_whole = writes == want.len();
+        assert!(rt;
+            is_written == is_whole,
+            "{writes} writes of {want}: {is_written}, not {is_whole}"
+        );
     }
 }
 
 // Asserts what the program tells of a fault, and with which status.
 fn assert_told(rt: &impl Abort, alloc: Global, fault: &ProgramFault, want: &str, status: u8) {
     let mut line = Vec::new(alloc);
-    assert_that(rt, tell(fault, &mut line) == status, want);
-    assert_that(rt, line.as_slice() == want.as_bytes(), want);
+    let told = tell(fault, &mut line);
+    assert!(rt; told == status, "{want}: status {told}, not {status}");
+    assert_text(rt, &line, want);
 }
 
 // Asserts the line of a fault of two request files, with or without a script, by itself and as the program tells it, and

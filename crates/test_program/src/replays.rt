@@ -17,6 +17,12 @@ pub fn assert_that(rt: &impl Abort, holds: bool, wrong: &str) {
     }
 }
 
+/// Stops the test unless bytes are this text, and tells both.
+pub fn assert_text(rt: &impl Abort, came: &[u8], want: &str) {
+    let came = str::from_utf8(came).unwrap_or("no text");
+    assert!(rt; came == want, "{came}, not {want}");
+}
+
 /// Stops the test and tells the fault, if there is one.
 pub fn assert_done(rt: &impl Abort, name: &str, fault: Option<DriverFault>) {
     assert!(rt; fault.is_none(), "{name}: {fault:?}");
@@ -24,9 +30,10 @@ pub fn assert_done(rt: &impl Abort, name: &str, fault: Option<DriverFault>) {
 
 /// Stops the test unless this is the fault after this many reads, writes or flushes.
 pub fn assert_fault(rt: &impl Abort, fault: Option<DriverFault>, want: DriverFault, calls: usize) {
+    let want = Some(want);
     assert!(rt;
-        fault == Some(want),
-        "after {calls} reads, writes or flushes"
+        fault == want,
+        "after {calls} reads, writes or flushes: {fault:?}, not {want:?}"
     );
 }
 
@@ -234,7 +241,11 @@ fn replayed(
 fn assert_harmless(rt: &impl Abort, alloc: Global, case: &Case<'_>, file: File, most: usize) {
     let fault = replayed(rt, alloc, case, cuts_of(file, most), &mut Vec::new(alloc));
     let is_harmless = is_harmless(&fault, file);
-    assert!(rt; is_harmless, "{}: {file:?} of {most} bytes", case.name);
+    assert!(rt;
+        is_harmless,
+        "{}: {file:?} of {most} bytes: {fault:?}",
+        case.name
+    );
 }
 
 // Whether there is no fault, or one of a file of this kind.
@@ -262,10 +273,11 @@ fn assert_prefixes(rt: &impl Abort, alloc: Global, case: &Case<'_>, file: File, 
     }
 }
 
-// Whether a text is the header row and these.
-fn is_report(text: &[u8], rows: &str) -> bool {
-    text.strip_prefix(b"row,id,number,phase,answer,page,count\n".as_slice())
-        == Some(rows.as_bytes())
+// The rows of a report, below its header row.
+fn rows_of(report: &[u8]) -> &[u8] {
+    report
+        .strip_prefix(b"row,id,number,phase,answer,page,count\n".as_slice())
+        .unwrap_or(b"no header".as_slice())
 }
 
 // Asserts that a case ends in its report.
@@ -273,7 +285,7 @@ fn assert_report(rt: &impl Abort, alloc: Global, case: &Case<'_>) {
     let mut out = Vec::new(alloc);
     let fault = replayed(rt, alloc, case, WHOLE, &mut out);
     assert_done(rt, case.name, fault);
-    assert_that(rt, is_report(&out, case.end), case.name);
+    assert_text(rt, rows_of(&out), case.end);
 }
 
 // Asserts that a case ends in its report, and that files that are cut short do no harm.
@@ -326,7 +338,8 @@ fn end_of_case(rt: &impl Abort, alloc: Global, case: &Case<'_>) -> String {
 
 // Asserts that the case of a text has this end.
 fn assert_ends(rt: &impl Abort, text: &str, end: &str) {
-    assert!(rt; end == cell(text, 5), "{text}: {end}");
+    let want = cell(text, 5);
+    assert!(rt; end == want, "{text}: {end}, not {want}");
 }
 
 #[test]

@@ -81,7 +81,11 @@ fn assert_ends(
     let mut out = Vec::new(alloc);
     let fault = run_onto(rt, alloc, settings, pages(), &requests, &mut out);
     assert_done(rt, settings, fault);
-    assert_that(rt, out.as_slice().ends_with(end.as_bytes()), end);
+    let is_end = out.as_slice().ends_with(end.as_bytes());
+    assert!(rt;
+        is_end,
+        "{settings}, {likes} likes: {out:?} doesn't end with {end}"
+    );
 }
 
 #[test]
@@ -204,6 +208,6 @@ fn keeps_to_the_stash(rt: HostRuntime) {
 fn assert_overtaken_by_one(rt: &impl Abort, alloc: Global, report: &[u8]) {
     let report = str::from_utf8(report).expect(rt, "a text");
     let phases = phases(alloc, report).expect(rt, "memory");
-    assert_that(rt, phases.len() == 40_000, "not 40,000 replies");
-    assert_that(rt, most_overtaken(&phases) == 1, "not one look");
+    assert_eq!(rt; phases.len(), 40_000);
+    assert_eq!(rt; most_overtaken(&phases), 1);
 }

@@ -1,7 +1,7 @@
 //! What words ask for, by `parse`.
 mod help;
 
-use crate::replays::assert_that;
+use crate::replays::{assert_text, assert_that};
 use like_command::{Asked, ParseFault, parse};
 use std::alloc::{AllocError, Global};
 use std::fmt::Debug;
@@ -109,7 +109,10 @@ fn all_wrong() -> &'static [&'static str] {
 // Stops the test unless the words ask for what begins so.
 fn assert_asks(rt: &impl Abort, alloc: Global, words: &str, wanted: &str) {
     let shown = shown(rt, alloc, asked(alloc, words));
-    assert_that(rt, shown.starts_with(wanted), &shown);
+    assert!(rt;
+        shown.starts_with(wanted),
+        "{words}: {shown} doesn't begin with {wanted}"
+    );
 }
 
 // An answer as `Debug` shows it, with a point behind it. It takes the answer, so that no caller has to drop it.
@@ -140,22 +143,20 @@ fn past_the_bounds() -> &'static str {
     PAST_THE_BOUNDS
 }
 
-// Whether a fault has this status and line.
-fn tells(rt: &impl Abort, alloc: Global, fault: &ParseFault, status: u8, line: &str) -> bool {
+// Stops the test unless a fault has this status and line.
+fn assert_tells(rt: &impl Abort, alloc: Global, fault: &ParseFault, status: u8, line: &str) {
     let mut text = Vec::with_capacity(alloc, 256).expect(rt, "memory");
-    fault.line(&mut text) && fault.status() == status && text.as_slice() == line.as_bytes()
+    assert_that(rt, fault.line(&mut text), "memory");
+    assert_text(rt, &text, line);
+    let told = fault.status();
+    assert!(rt; told == status, "{line}: status {told}, not {status}");
 }
 
 #[test]
 fn faults(rt: HostRuntime) {
     let fault = asked(rt.alloc(), "replay --workers 17 p.csv r.csv").expect_err(&rt, "asked");
-    let is_told = tells(&rt, rt.alloc(), &fault, 2, past_the_bounds());
+    assert_tells(&rt, rt.alloc(), &fault, 2, past_the_bounds());
     drop(fault);
-    assert_that(&rt, is_told, "memory");
     let line = "likes: out of memory\n";
-    assert_that(
-        &rt,
-        tells(&rt, rt.alloc(), &ParseFault::Memory, 4, line),
-        "another line",
-    );
+    assert_tells(&rt, rt.alloc(), &ParseFault::Memory, 4, line);
 }

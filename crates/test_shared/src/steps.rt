@@ -7,6 +7,8 @@ use like_live::{
     RowAnswer, TurnAnswer,
 };
 use like_shared::{Busy, Client, LikeCall, SharedService};
+use std::fmt::Debug;
+use std::process::Abort;
 
 /// A call at the seat of a user, with its answer.
 #[derive(Clone, Copy)]
@@ -70,134 +72,178 @@ pub(crate) struct Part {
     pub steps: &'static [Step],
 }
 
-// Makes a call of a user, and says whether it is answered like this.
-fn is_user_answer(service: &SharedService, client: &mut Client, user: u32, call: OnSeat) -> bool
+/// A step of a scene: its part, and the step in that.
+#[derive(Clone, Copy)]
+struct At {
+    part: usize,
+    step: usize,
+}
+
+// Asserts that a call is answered as its step says. A failure is put into words here, so that no proof of a call has
+// that.
+fn assert_at<T: PartialEq + Debug + Drop>(rt: &impl Abort, at: At, came: T, wanted: T) {
+    let At { part, step } = at;
+    assert!(rt;
+        came == wanted,
+        "part {part}, step {step}: {came:?}, not {wanted:?}"
+    );
+}
+
+// Makes a call of a user.
+fn call_user(
+    rt: &impl Abort,
+    at: At,
+    service: &SharedService,
+    client: &mut Client,
+    user: u32,
+    call: OnSeat,
+)
     requires { IsClient service.now client.old }
     ensures { IsClient service.now client.new }
 {
     match call {
-        OnSeat::Like(page, wanted) => client.like(service, user, page) == wanted,
-        OnSeat::Look(page, tag, wanted) => client.look(service, user, page, tag) == Ok(wanted),
-        OnSeat::Glance(page, wanted) => client.glance(service, user, page) == Ok(wanted),
-        OnSeat::Last(wanted) => client.last(service, user) == Ok(Ok(wanted)),
-        call => is_seat_answer(service, client, service.seat_of(user), call),
+        OnSeat::Like(page, wanted) => assert_at(rt, at, client.like(service, user, page), wanted),
+        OnSeat::Look(page, tag, wanted) => {
+            assert_at(rt, at, client.look(service, user, page, tag), Ok(wanted));
+        }
+        OnSeat::Glance(page, wanted) => {
+            assert_at(rt, at, client.glance(service, user, page), Ok(wanted));
+        }
+        OnSeat::Last(wanted) => assert_at(rt, at, client.last(service, user), Ok(Ok(wanted))),
+        call => call_seat(rt, at, service, client, service.seat_of(user), call),
     }
 }
 
-// Makes a call of a seat, and says whether it is answered like this.
-fn is_seat_answer(service: &SharedService, client: &mut Client, seat: usize, call: OnSeat) -> bool
+// Makes a call of a seat.
+fn call_seat(
+    rt: &impl Abort,
+    at: At,
+    service: &SharedService,
+    client: &mut Client,
+    seat: usize,
+    call: OnSeat,
+)
     requires client { IsClient service.now client.old }
     requires seat { seat < seats_of service.now }
     ensures { IsClient service.now client.new }
 {
     match call {
         OnSeat::LikeOf(user, wanted) => {
-            client.call(service, seat, &LikeCall { user, page: 0 }) == Ok(wanted)
+            let came = client.call(service, seat, &LikeCall { user, page: 0 });
+            assert_at(rt, at, came, Ok(wanted));
         }
-        OnSeat::Lasts(wanted) => are_lasts(service, client, seat, wanted),
-        OnSeat::LikeRow(likes, wanted) => client.like_row(service, seat, likes) == Ok(wanted),
-        OnSeat::Run(calls, wanted) => is_run(service, client, seat, calls, wanted),
-        OnSeat::Turn(wanted) => client.turn(service, seat) == Ok(wanted),
-        OnSeat::TakeFound(wanted) => client.take_found(service, seat) == Ok(wanted),
-        OnSeat::Retire(wanted) => client.retire(service, seat) == Ok(wanted),
-        OnSeat::ComeBack(wanted) => client.come_back(service, seat) == Ok(wanted),
-        OnSeat::Lock(wanted) => client.lock(service, seat) == wanted,
-        OnSeat::Unlock => {
-            client.unlock(service, seat);
-            true
+        OnSeat::Lasts(wanted) => {
+            let mut pages = [0; 2];
+            assert_at(rt, at, client.lasts(service, seat, 0, &mut pages), Ok(true));
+            assert_at(rt, at, pages, wanted);
         }
-        _ => false,
+        OnSeat::LikeRow(likes, wanted) => {
+            assert_at(rt, at, client.like_row(service, seat, likes), Ok(wanted));
+        }
+        OnSeat::Run(calls, wanted) => {
+            let mut answers = [Answer::Like(LikeAnswer::Gone); 2];
+            assert_at(
+                rt,
+                at,
+                client.run(service, seat, calls, &mut answers),
+                Ok(2),
+            );
+            assert_at(rt, at, answers, *wanted);
+        }
+        OnSeat::Turn(wanted) => assert_at(rt, at, client.turn(service, seat), Ok(wanted)),
+        OnSeat::TakeFound(wanted) => {
+            assert_at(rt, at, client.take_found(service, seat), Ok(wanted));
+        }
+        OnSeat::Retire(wanted) => assert_at(rt, at, client.retire(service, seat), Ok(wanted)),
+        OnSeat::ComeBack(wanted) => assert_at(rt, at, client.come_back(service, seat), Ok(wanted)),
+        OnSeat::Lock(wanted) => assert_at(rt, at, client.lock(service, seat), wanted),
+        OnSeat::Unlock => client.unlock(service, seat),
+        _ => rt.panic("a call of a user"),
     }
 }
 
-// Whether these are the last likes of a seat's first two users.
-fn are_lasts(service: &SharedService, client: &mut Client, seat: usize, wanted: [u32; 2]) -> bool
-    requires client { IsClient service.now client.old }
-    requires seat { seat < seats_of service.now }
-    ensures { IsClient service.now client.new }
-{
-    let mut pages = [0; 2];
-    client.lasts(service, seat, 0, &mut pages) == Ok(true) && pages == wanted
-}
-
-// Whether both calls of a row are made, with these answers.
-fn is_run(
+// Makes a call of the driver.
+fn call_driver(
+    rt: &impl Abort,
+    at: At,
     service: &SharedService,
     client: &mut Client,
-    seat: usize,
-    calls: &[Call; 2],
-    wanted: &[Answer; 2],
-) -> bool
-    requires client { IsClient service.now client.old }
-    requires seat { seat < seats_of service.now }
-    ensures { IsClient service.now client.new }
-{
-    let mut answers = [Answer::Like(LikeAnswer::Gone); 2];
-    client.run(service, seat, calls, &mut answers) == Ok(2) && answers == *wanted
-}
-
-// Makes a call of the driver, and says whether it is answered like this.
-fn is_driver_answer(service: &SharedService, client: &mut Client, call: OnDriver) -> bool
+    call: OnDriver,
+)
     requires client { IsClient service.now client.old }
     requires pages { pages_of service.now ≡ 2 }
     ensures { IsClient service.now client.new }
 {
     let mut counts = [0; 2];
     match call {
-        OnDriver::Turn(wanted) => client.turn_driver(service, End::IfItServes) == Ok(wanted),
-        OnDriver::Propose(pages) => client.propose(service, pages) == Ok(()),
-        OnDriver::Phase(wanted) => service.phase_now().get() == wanted,
+        OnDriver::Turn(wanted) => {
+            assert_at(
+                rt,
+                at,
+                client.turn_driver(service, End::IfItServes),
+                Ok(wanted),
+            );
+        }
+        OnDriver::Propose(pages) => assert_at(rt, at, client.propose(service, pages), Ok(())),
+        OnDriver::Phase(wanted) => assert_at(rt, at, service.phase_now().get(), wanted),
         OnDriver::Snapshot(phase, wanted) => {
-            client.snapshot(service, 0, &mut counts) == Ok(phase) && counts == wanted
+            assert_at(rt, at, client.snapshot(service, 0, &mut counts), Ok(phase));
+            assert_at(rt, at, counts, wanted);
         }
         OnDriver::Splits(page) => {
             let mut pages = [0; 64];
-            client.split_pages(service, &mut pages) == Ok(1) && pages[0] == page
+            assert_at(rt, at, client.split_pages(service, &mut pages), Ok(1));
+            assert_at(rt, at, pages[0], page);
         }
         OnDriver::LastCounts(wanted) => {
-            client.last_counts(service, 0, &mut counts) == Ok(true) && counts == wanted
+            assert_at(
+                rt,
+                at,
+                client.last_counts(service, 0, &mut counts),
+                Ok(true),
+            );
+            assert_at(rt, at, counts, wanted);
         }
     }
 }
 
-// Makes calls. The number of the first that is answered otherwise than its step says, if there is one.
-fn first_wrong(service: &SharedService, client: &mut Client, steps: &[Step]) -> Option<usize>
+// Makes the calls of a part.
+fn make_part(
+    rt: &impl Abort,
+    part: usize,
+    service: &SharedService,
+    client: &mut Client,
+    steps: &[Step],
+)
     requires client { IsClient service.now client.old }
     requires pages { pages_of service.now ≡ 2 }
     ensures { IsClient service.now client.new }
 {
     for (number, step) in steps.iter().enumerate() {
-        let is_answered = match *step {
-            Step::Seat(user, call) => is_user_answer(service, client, user, call),
-            Step::Driver(call) => is_driver_answer(service, client, call),
-        };
-        if !is_answered {
-            return Some(number);
+        let at = At { part, step: number };
+        match *step {
+            Step::Seat(user, call) => call_user(rt, at, service, client, user, call),
+            Step::Driver(call) => call_driver(rt, at, service, client, call),
         }
     }
-    None
 }
 
-/// Makes the calls of parts, by two clients. The number of the first part with a call that is answered otherwise than
-/// its step says, and of that call, if there is one.
-pub(crate) fn first_wrong_part(
+/// Makes the calls of parts, by two clients, and stops the test if one is answered otherwise than its step says.
+pub(crate) fn make_parts(
+    rt: &impl Abort,
     service: &SharedService,
     one: &mut Client,
     two: &mut Client,
     parts: &[Part],
-) -> Option<(usize, usize)>
+)
     requires one { IsClient service.now one.old }
     requires two { IsClient service.now two.old }
     requires pages { pages_of service.now ≡ 2 }
 {
     for (number, part) in parts.iter().enumerate() {
-        let wrong = match part.by {
-            By::One => first_wrong(service, one, part.steps),
-            By::Two => first_wrong(service, two, part.steps),
-        };
-        if let Some(step) = wrong {
-            return Some((number, step));
+        match part.by {
+            By::One => make_part(rt, number, service, one, part.steps),
+            By::Two => make_part(rt, number, service, two, part.steps),
         }
     }
-    None
 }

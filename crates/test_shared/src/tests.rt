@@ -4,7 +4,7 @@ ghost use Rattle.told_lock.specs.Rights.{IsKeeper};
 ghost use Rattle.like_shared.specs.Shared.{IsServiceKeeper, pages_of};
 
 use crate::scenes::{each_call, holding_a_seat};
-use crate::steps::{Part, first_wrong_part};
+use crate::steps::{Part, make_parts};
 use like_hosts::calls::retire_all;
 use like_hosts::host::host;
 use like_hosts::hub;
@@ -84,7 +84,7 @@ fn plays(rt: &impl Abort, alloc: Global, parts: &[Part]) -> Result<(), Fail> {
     let (service, mut keeper) = opened(alloc)?;
     let mut one = service.new_client(alloc, &mut keeper)?;
     let mut two = service.new_client(alloc, &mut keeper)?;
-    assert_eq!(rt; first_wrong_part(&service, &mut one, &mut two, parts), None);
+    make_parts(rt, &service, &mut one, &mut two, parts);
     Ok(())
 }
 

@@ -1,6 +1,5 @@
 //! What help says.
 use super::asked;
-use crate::replays::assert_that;
 use like_command::Asked;
 use std::alloc::Global;
 use std::process::Abort;
@@ -99,19 +98,24 @@ fn all_help() -> &'static [Case] {
 
 fn assert_explains(rt: &impl Abort, text: &str, list: &[&str], is_explained: bool) {
     for what in list {
-        assert_that(rt, explains(text, *what) == is_explained, *what);
+        let came = explains(text, *what);
+        assert!(rt; came == is_explained, "{what}: {came}, not {is_explained}");
     }
 }
 
 fn assert_says(rt: &impl Abort, text: &str, parts: &[&str]) {
     for part in parts {
-        assert_that(rt, text.contains(*part), *part);
+        assert!(rt; text.contains(*part), "{text} doesn't say {part}");
     }
 }
 
 fn assert_narrow(rt: &impl Abort, text: &str) {
     for line in text.lines() {
-        assert_that(rt, line.len() <= 80, line);
+        assert!(rt;
+            line.len() <= 80,
+            "{line} has {} columns, and not 80 or fewer",
+            line.len()
+        );
     }
 }
 
@@ -147,6 +151,6 @@ fn ask_alike(rt: &impl Abort, alloc: Global, words: &str, others: &str) -> bool 
 fn is_asked_for_by_a_word_too(rt: HostRuntime) {
     for (words, others) in alike() {
         let is_alike = ask_alike(&rt, rt.alloc(), *words, *others);
-        assert_that(&rt, is_alike, *words);
+        assert!(&rt; is_alike, "{words} doesn't ask for what {others} asks for");
     }
 }
