@@ -1,16 +1,14 @@
 //! How many more looks may wait at a seat.
 ghost use Rattle.std.specs.Prelude.{◌≡◌, ◌+◌, ◌^◌, ◌<◌, false, min, IsTrue};
 
+use like_seat::take_one;
 use std::marker::Model;
-
-// Where numbers are that were taken below 0.
-const BELOW_ZERO: u32 = 1 << 31;
 
 /// How many more looks may wait. For so many of them as are free the seat has no other test to make: so one subtraction
 /// counts a look, and tells whether it was free.
 #[derive(Drop)]
 pub(crate) struct LookRoom {
-    free: u32,
+    free: u64,
     rest: u32,
 }
 
@@ -23,15 +21,6 @@ impl Model for LookRoom {
     ghost view = { λ r. record { free = r.free; left = r.free + r.rest } };
 
     ghost invariant = { λ r. r.free + r.rest < 2 ^ 31 };
-}
-
-// It stands apart, so that the compiler doesn't make it a part of each count.
-#[cold]
-#[inline(never)]
-fn set_to_zero(number: &mut u32)
-    ensures { number.new ≡ 0 }
-{
-    *number = 0;
 }
 
 impl LookRoom {
@@ -50,7 +39,7 @@ impl LookRoom {
     pub fn left(&self) -> u32
         ensures { result ≡ self.now.left }
     {
-        self.free + self.rest
+        self.free as u32 + self.rest
     }
 
     /// Takes a free one if there is one, and says whether.
@@ -60,12 +49,7 @@ impl LookRoom {
             × (self.old.left ≡ self.new.left + 1) }
         ensures none { result ≡ false → (self.old.free ≡ 0) × (self.new ≡ self.old) }
     {
-        self.free = self.free.wrapping_sub(1);
-        if self.free < BELOW_ZERO {
-            return true;
-        }
-        set_to_zero(&mut self.free);
-        false
+        take_one(&mut self.free)
     }
 
     /// Takes one. None is free then.
@@ -92,7 +76,8 @@ impl LookRoom {
         ensures left { self.new.left ≡ self.old.left }
     {
         let left = self.left();
-        self.free = left.min(most);
-        self.rest = left - self.free;
+        let free = left.min(most);
+        self.free = u64::from(free);
+        self.rest = left - free;
     }
 }

@@ -17,7 +17,7 @@ mod tables;
 
 pub use laws::posts_are_exclusive;
 pub use lead::{Lead, LeadOf, NoLead};
-pub use like_count::MAX_LIKES;
+pub use like_count::{MAX_LIKES, take_one};
 pub use merged::Merged;
 pub use seen::Seen;
 pub use station::{NoStation, ServiceStation, Station, come_back};

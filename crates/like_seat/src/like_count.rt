@@ -37,9 +37,9 @@ fn set_to_zero(number: &mut u64)
     *number = 0;
 }
 
-// Takes one away, if it isn't 0, and says whether: by one subtraction, whose sign tells that.
+/// Takes one away from a number, if it isn't 0, and says whether: by one subtraction, whose sign tells that.
 #[inline(always)]
-fn take_one(number: &mut u64) -> bool
+pub fn take_one(number: &mut u64) -> bool
     requires { number.old < 2 ^ 63 }
     ensures taken { IsTrue result → number.old ≡ number.new + 1 }
     ensures none { result ≡ false → (number.old ≡ 0) × (number.new ≡ 0) }
