@@ -6,7 +6,8 @@ use Rattle.std.proofs.lemmas.List.{get_or-drop, length-map, length_push, map-id}
 use Rattle.std.proofs.lemmas.List.FromFn.{map-range_with_len_more}
 use Rattle.std.proofs.lemmas.Option.{get_or_from_slice_get, slice_get-get_or, slice_get-map, slice_get_read, unwrap_or-slice_get}
 use Rattle.like_limits.specs.Limits.{max_requests}
-use Rattle.like_requests.specs.Setup.{FitsRun, IsPlan}
+use Rattle.like_requests.proofs.Planned.{plans-within}
+use Rattle.like_requests.specs.Setup.{IsPlan, IsWithinLimits}
 use Rattle.like_requests.specs.declared.request.Request.{Request}
 use Rattle.like_requests.specs.declared.setup.Setup.{Setup}
 use Rattle.like_core.specs.declared.view.WorkerSeatView.{WorkerSeatView}
@@ -158,8 +159,8 @@ are-untouched inboxes plans are = subst AreUntouched (sym are) (all-untouched pl
 
 -- plans within the limits are within that of a list
 pub all-small : (setup : Setup) (plans : List (Vec Request Global))
-    → FitsRun setup (lists_of plans)
+    → IsWithinLimits setup (lists_of plans)
     → All (λ plan. length plan.items ≤ max_requests) plans
 all-small setup plans within =
     all-back (λ (plan : Vec Request Global). plan.items) (λ plan. length plan ≤ max_requests) plans
-    (all-back length (λ n. n ≤ max_requests) (lists_of plans) within.numbers.small)
+    (λ k d h. (plans-within setup (lists_of plans) within k d h).few)

@@ -1,7 +1,7 @@
 ghost use Rattle.std.specs.Prelude.{◌≡◌, ◌≤◌, All, IfOk, length, map};
 ghost use Rattle.like_limits.specs.Limits.{max_requests};
 ghost use Rattle.like_queue.specs.Inbox.{view_of};
-ghost use Rattle.like_requests.specs.Setup.{FitsRun};
+ghost use Rattle.like_requests.specs.Setup.{IsWithinLimits};
 ghost use Rattle.like_promises.specs.Workload.{lists_of};
 ghost use Rattle.like_crew.specs.Crew.{IsCrew, IsNewCrew, crew_of};
 ghost use Rattle.like_crew.specs.Server.{AreUntouched, plans_of, untouched};
@@ -45,7 +45,7 @@ impl<'a, I: Inbox> Crew<'a, I> {
         seats: Seats,
         inboxes: Vec<I>,
     ) -> Result<Crew<'a, I>, AllocError>
-        requires within { FitsRun setup.now (plans_of (map I.view inboxes.items)) }
+        requires within { IsWithinLimits setup.now (plans_of (map I.view inboxes.items)) }
         requires untouched { AreUntouched (map I.view inboxes.items) }
         requires closed { All (λ inbox. I.opened inbox ≡ 0) inboxes.items }
         requires site { IsSite setup.now (plans_of (map I.view inboxes.items)) site.now }

@@ -1,5 +1,5 @@
 ghost use Rattle.std.specs.Prelude.{◌≡◌, IfOk, MatchResult, length, map};
-ghost use Rattle.like_requests.specs.Setup.{FitsRun};
+ghost use Rattle.like_requests.specs.Setup.{IsWithinLimits};
 ghost use Rattle.like_board.specs.Closed.{IsClosedBoard};
 ghost use Rattle.like_board.specs.Seats.{board_id, coord_view};
 ghost use Rattle.like_promises.specs.Workload.{lists_of};
@@ -34,7 +34,7 @@ pub fn report_of(
     terms: Terms<'_>,
     outcome: Outcome,
 ) -> Result<Report, AllocError>
-    requires within { FitsRun setup.now (lists_of plans.now.value.items) }
+    requires within { IsWithinLimits setup.now (lists_of plans.now.value.items) }
     requires sizes { terms.sizes.now ≡ map length (lists_of plans.now.value.items) }
     requires outcome { IsOutcome setup.now (lists_of plans.now.value.items) terms.notes outcome }
     ensures report { IfOk result (IsReportOf setup.now (lists_of plans.now.value.items) terms.entry.notes) }
@@ -56,7 +56,7 @@ pub fn report_in_parallel<T: Threads + Sync>(
     ended: Ended,
     starts: u32,
 ) -> Result<Report, AllocError>
-    requires within { FitsRun setup.now (lists_of plans.now.value.items) }
+    requires within { IsWithinLimits setup.now (lists_of plans.now.value.items) }
     requires site { IsSite setup.now (lists_of plans.now.value.items) site }
     requires ended { IsEnded setup.now (lists_of plans.now.value.items) site ended }
     ensures report { IfOk result (IsReportOf setup.now (lists_of plans.now.value.items) site.notes) }
@@ -86,7 +86,7 @@ fn report_with(
     outcome: Outcome,
     collected: Result<Replies, CollectFault>,
 ) -> Result<Report, AllocError>
-    requires within { FitsRun setup.now (lists_of plans.now.value.items) }
+    requires within { IsWithinLimits setup.now (lists_of plans.now.value.items) }
     requires sizes { terms.sizes.now ≡ map length (lists_of plans.now.value.items) }
     requires outcome { IsOutcome setup.now (lists_of plans.now.value.items) terms.notes outcome }
     requires collected { MatchResult collected

@@ -1,6 +1,6 @@
 ghost use Rattle.std.specs.Prelude.{◌≡◌, ◌≤◌, All, IfOk, length, map};
 ghost use Rattle.like_limits.specs.Limits.{max_requests};
-ghost use Rattle.like_requests.specs.Setup.{FitsRun};
+ghost use Rattle.like_requests.specs.Setup.{IsWithinLimits};
 ghost use Rattle.like_promises.specs.Workload.{lists_of};
 ghost use Rattle.like_crew.specs.Site.{AreSeats, IsSite};
 
@@ -35,7 +35,7 @@ impl Site {
         plans: &[Vec<Request>],
         notes: bool,
     ) -> Result<(Site, Seats), AllocError>
-        requires { FitsRun setup.now (lists_of plans.now) }
+        requires { IsWithinLimits setup.now (lists_of plans.now) }
         ensures site { IfOk result (λ r. IsSite setup.now (lists_of plans.now) r.0) }
         ensures seats { IfOk result (λ r. AreSeats setup.now r.0 r.1) }
         ensures notes { IfOk result (λ r. r.0.notes ≡ notes) }

@@ -12,7 +12,7 @@ use Rattle.like_promises.specs.places.Tiling.{ArePlacesTiled}
 use Rattle.like_promises.specs.Report.{IsReportOf, workload_by}
 use Rattle.like_limits.specs.Limits.{max_requests}
 use Rattle.like_requests.specs.Pages.{Page}
-use Rattle.like_requests.proofs.Planned.{fits-run}
+use Rattle.like_requests.proofs.Planned.{worker-within}
 use Rattle.like_requests.specs.Setup.{IsWithinLimits}
 use Rattle.like_requests.specs.declared.request.Request.{Request}
 use Rattle.like_replies.specs.declared.write_fault.WriteFault.{WriteFault}
@@ -66,7 +66,7 @@ few_requests setup plans notes report within is =
     let sizes : List ℕ = map length plans in
     let same : requests_in report.replies ≡ fold (λ s n. s + n) 0 sizes =
     lengths report.replies.rows.items 0 ∙ ap (fold (λ (s n : ℕ). s + n) 0) is.right.one.answers.sized in
-    let numbers = (fits-run setup plans within).numbers in
+    let numbers = worker-within setup plans within in
     omega (arith, same, sum-≤ sizes 0 numbers.small, numbers.submitters.1)
 
 -- request files that were refused, where the pages file gives these pages

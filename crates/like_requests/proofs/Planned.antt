@@ -2,23 +2,15 @@
 use Rattle.std.proofs.Common.{◌≡◌, ℕ, zero, suc, ◌+◌, ◌<◌, ◌≤◌, List, [], ◌∷◌, ◌++◌, length, map, get_or, sym, ap, subst, refl, inl, inr, arith}
 use Rattle.std.specs.List.{All, AllByRecursion, range_with_len}
 use Rattle.std.proofs.lemmas.Bool.{cases_eq}
-use Rattle.std.proofs.lemmas.List.{get_or-map, length-map}
+use Rattle.std.proofs.lemmas.List.{length-map}
 use Rattle.std.proofs.lemmas.List.Elements.{All-map}
 use Rattle.like_records.specs.First.{FailsFirst}
 use Rattle.like_limits.specs.Limits.{max_requests, max_submitters}
-use Rattle.like_requests.specs.Setup.{AreNumbersWithin, FitsRun, Holds, IsFirstBroken, IsHotLimit, IsPlan, IsWithinLimits, number_limits}
+use Rattle.like_requests.specs.Setup.{AreNumbersWithin, AreThere, Holds, IsFirstBroken, IsHotLimit, IsPlan, IsWithin, IsWithinLimits, number_limits}
 use Rattle.like_requests.specs.declared.request.Request.{Request}
 use Rattle.like_requests.specs.declared.setup.Setup.{Setup}
 use Rattle.like_requests.specs.declared.setup.SettingsFault.{SettingsFault}
 use Rattle.like_requests.specs.declared.setup.SettingsFault.TheVariants.{Hot, Plan}
-
--- where all limits hold for those who make a run, each list is within them
-pub plans-within : (s : Setup) (plans : List (List Request)) → FitsRun s plans → All (IsPlan s.pages) plans
-plans-within s plans w k d h = record {
-  few = subst (λ n. n ≤ max_requests) (get_or-map length plans k d (length d) h)
-      (w.numbers.small k (length d) (rw (length-map plans length) h));
-  there = w.there k d h;
-}
 
 module _ {X : Type 0} (Good : X → Type 0) where
   -- the first test that fails is behind those that hold
@@ -89,20 +81,12 @@ module _ (s : Setup) (plans : List (List Request)) where
     | inr other ↦ plan-holds (a + 1) n k all.1 (omega arith) (omega arith)
   ]
 
-  -- and all of them hold for those who make a run
-  pub fits-run : IsWithinLimits s plans → FitsRun s plans
-  fits-run w = record {
-    numbers = record {
-      workers = w.0;
-      submitters = subst (λ k. (1 ≤ k) × (k ≤ max_submitters)) (sym (length-map plans length)) w.1.0;
-      stash = w.1.1.1.0;
-      small = All-map (λ k. k ≤ max_requests) length plans (λ k d h. (each k d h).few);
-    };
-    users = w.1.1.0;
-    turns = w.1.1.1.1.0;
-    there = λ k d h. (each k d h).there;
-    hot = (all-rest (Holds s plans) lists (Hot ∷ []) w.1.1.1.1.1).0;
-  } where
+  -- where all limits hold, each list is within them
+  pub plans-within : IsWithinLimits s plans → All (IsPlan s.pages) plans
+  plans-within w k d h = subst (IsPlan s.pages) (any plans k d h)
+      (plan-holds 0 (length plans) k (all-first (Holds s plans) lists (Hot ∷ []) w.1.1.1.1.1) (omega arith)
+      (omega arith))
+  where
     lists : List SettingsFault
     lists = map Plan (range_with_len 0 (length plans))
 
@@ -111,7 +95,15 @@ module _ (s : Setup) (plans : List (List Request)) where
     any (x ∷ xs) zero d h = refl
     any (x ∷ xs) (suc k) d h = any xs k d (omega arith)
 
-    each : (k : ℕ) (d : List Request) → k < length plans → IsPlan s.pages (get_or plans k d)
-    each k d h = subst (IsPlan s.pages) (any plans k d h)
-        (plan-holds 0 (length plans) k (all-first (Holds s plans) lists (Hot ∷ []) w.1.1.1.1.1) (omega arith)
-        (omega arith))
+  -- each page that the lists know exists
+  pub plans-there : IsWithinLimits s plans → All (AreThere s.pages) plans
+  plans-there w k d h = (plans-within w k d h).there
+
+  -- and the limits that a worker needs hold
+  pub worker-within : IsWithinLimits s plans → IsWithin s (map length plans)
+  worker-within w = record {
+    workers = w.0;
+    submitters = subst (λ k. (1 ≤ k) × (k ≤ max_submitters)) (sym (length-map plans length)) w.1.0;
+    stash = w.1.1.1.0;
+    small = All-map (λ k. k ≤ max_requests) length plans (λ k d h. (plans-within w k d h).few);
+  }

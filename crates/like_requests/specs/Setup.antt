@@ -17,10 +17,14 @@ abbrev pub IsThere : ℕ → PageRef → Type 0
 IsThere pages (Known page) = page < pages
 IsThere pages Unknown = ⊤
 
+-- each page that the requests know exists
+abbrev pub AreThere : List Page → List Request → Type 0
+AreThere pages plan = All (λ r. IsThere (length pages) r.page) plan
+
 -- a submitter's list is not too long, and each page that it knows exists
 pub record IsPlan (pages : List Page) (plan : List Request) : Type 0 where
   pub few : length plan ≤ max_requests
-  pub there : All (λ r. IsThere (length pages) r.page) plan
+  pub there : AreThere pages plan
 
 -- how many likes make a page hot, if any do
 abbrev pub IsHotLimit : Option ℕ → Type 0
@@ -57,21 +61,10 @@ IsFirstBroken s plans fault = FailsFirst (Holds s plans) (limits (length plans))
 abbrev pub AreNumbersWithin : Setup → List (List Request) → Type 0
 AreNumbersWithin s plans = AllByRecursion (Holds s plans) number_limits
 
--- the limits hold that a worker needs, where the submitters have these numbers of requests
+-- The limits hold that a worker needs, where the submitters have these numbers of requests. It asks for less than
+-- `IsWithinLimits`, since a worker is made of these numbers and not of all lists.
 pub record IsWithin (s : Setup) (sizes : List ℕ) : Type 0 where
   pub workers : (1 ≤ s.workers) × (s.workers ≤ max_workers)
   pub submitters : (1 ≤ length sizes) × (length sizes ≤ max_submitters)
   pub stash : (1 ≤ s.stash) × (s.stash ≤ max_stash)
   pub small : All (λ n. n ≤ max_requests) sizes
-
--- each page that the requests know exists
-abbrev pub AreThere : List Page → List Request → Type 0
-AreThere pages plan = All (λ r. IsThere (length pages) r.page) plan
-
--- all limits hold, as those who make a run need them
-pub record FitsRun (s : Setup) (plans : List (List Request)) : Type 0 where
-  pub numbers : IsWithin s (map length plans)
-  pub users : (1 ≤ s.users) × (s.users ≤ max_users)
-  pub turns : s.turns ≤ max_turns
-  pub there : All (AreThere s.pages) plans
-  pub hot : IsHotLimit s.hot

@@ -1,5 +1,5 @@
 ghost use Rattle.std.specs.Prelude.{◌≡◌, ◌≤◌, All, IfErr, IfOk, OnErr, OnOk, length, false, true};
-ghost use Rattle.like_requests.specs.Setup.{FitsRun};
+ghost use Rattle.like_requests.specs.Setup.{IsWithinLimits};
 ghost use Rattle.like_roles.specs.coordinator.CoordTurns.{HasEndedJoined};
 ghost use Rattle.like_requests.specs.Script.{IsInRun};
 ghost use Rattle.like_limits.specs.Limits.{max_entries};
@@ -70,7 +70,7 @@ fn replay_within(
     script: &[Turned],
     notes: bool,
 ) -> Result<Report, ReplayFault>
-    requires within { FitsRun setup.now (lists_of plans.items) }
+    requires within { IsWithinLimits setup.now (lists_of plans.items) }
     requires script { All (IsInRun setup.now.workers (length plans.items)) script.now }
     ensures report { IfOk result (IsReportOf setup.now (lists_of plans.items) notes) }
     ensures follows { IfOk result (ReportFollows setup.now (lists_of plans.items) script.now) }

@@ -1,5 +1,5 @@
 ghost use Rattle.std.specs.Prelude.{◌≡◌, ◌+◌, ◌-◌, ◌≤◌, ◌^◌, min, false, true, [], All, IfErr, IfOk, OnOk, length, map, vec_capacity};
-ghost use Rattle.like_requests.specs.Setup.{FitsRun, IsWithinLimits};
+ghost use Rattle.like_requests.specs.Setup.{IsWithinLimits};
 ghost use Rattle.like_promises.specs.Workload.{lists_of};
 ghost use Rattle.like_crew.specs.Crew.{crew_of};
 ghost use Rattle.like_crew.specs.Ended.{IsEnded};
@@ -110,7 +110,7 @@ fn run_within<R: Threads + Wait + Sync, G: Gate>(
     starts: u32,
     notes: bool,
 ) -> Result<Report, RunFault>
-    requires { FitsRun setup.now (lists_of plans.items) }
+    requires { IsWithinLimits setup.now (lists_of plans.items) }
     ensures report { IfOk result (IsReportOf setup.now (lists_of plans.items) notes) }
     ensures enough { OnOk result (setup.now.workers + length plans.items ≤ starts) }
     ensures fault { IfErr result IsRunFaultUnderWay }
@@ -133,7 +133,7 @@ fn run_at<R: Threads + Wait + Sync, G: Gate>(
     gate: &G,
     starts: usize,
 ) -> Result<Ended, RunFault>
-    requires within { FitsRun setup.now (lists_of plans.items) }
+    requires within { IsWithinLimits setup.now (lists_of plans.items) }
     requires site { IsSite setup.now (lists_of plans.items) site.now }
     requires seats { AreSeats setup.now site.now seats }
     ensures ended { IfOk result (IsEnded setup.now (lists_of plans.items) site.now) }

@@ -6,7 +6,7 @@ use Rattle.std.proofs.lemmas.List.{get_or-map, get_or-set_same, length-map, leng
 use Rattle.std.proofs.lemmas.List.Sums.{sum_by_push}
 use Rattle.std.proofs.lemmas.Option.{get_or_from_slice_get, slice_get_within}
 use Rattle.like_requests.specs.Pages.{ArePages, Page, counts_of}
-use Rattle.like_requests.specs.Setup.{FitsRun, IsPlan, IsThere}
+use Rattle.like_requests.specs.Setup.{IsPlan, IsThere, IsWithinLimits}
 use Rattle.like_requests.proofs.Planned.{plans-within}
 use Rattle.like_requests.specs.declared.request.Request.{Request}
 use Rattle.like_requests.specs.declared.request.Taken.{Taken}
@@ -178,7 +178,7 @@ plan_at pages (plan ∷ plans) (suc submitter) all =
 -- a new worker may be played with
 pub plays_new : (s : Setup) (plans : List (List Request)) (terms : Terms) (worker : ℕ)
     (post : WorkerSeatView) (plan : List Request) (v : WorkerView)
-    → FitsRun s plans
+    → IsWithinLimits s plans
     → terms.sizes.now ≡ map length plans
     → length terms.sizes.now ≤ s.workers
     → plan ≡ get_or plans worker []
@@ -187,7 +187,7 @@ pub plays_new : (s : Setup) (plans : List (List Request)) (terms : Terms) (worke
     → IsPlaying plan 0 v
 plays_new s plans terms worker post plan v w sized few is his new =
     let sizes : List ℕ = terms.sizes.now in
-    let own = dealt_one s.workers worker sizes w.numbers.workers.0 few in
+    let own = dealt_one s.workers worker sizes w.0.0 few in
     let lists = plan_at s.pages plans worker (plans-within s plans w) in
     let ended : length v.ended ≡ length v.left = ap length new.ended ∙ length-replicate (length v.left) false in
     let left_is : length v.left ≡ length (dealt s.workers worker sizes) = ap length new.left in

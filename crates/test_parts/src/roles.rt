@@ -1,7 +1,7 @@
 //! The turns of the worked examples, of workers and the coordinator at one board.
 ghost use Rattle.std.specs.Prelude.{◌≡◌, ◌≤◌, All, IfOk, length, map};
 ghost use Rattle.like_limits.specs.Limits.{max_requests};
-ghost use Rattle.like_requests.specs.Setup.{FitsRun};
+ghost use Rattle.like_requests.specs.Setup.{IsWithinLimits};
 ghost use Rattle.like_promises.specs.Workload.{lists_of};
 
 mod choice;
@@ -230,7 +230,7 @@ fn play_at_board(
     plans: &[Vec<Request>],
     often: bool,
 ) -> Result<(), Fail>
-    requires within { FitsRun setup.now (lists_of plans.now) }
+    requires within { IsWithinLimits setup.now (lists_of plans.now) }
     requires few { length plans.now ≤ setup.now.workers }
 {
     let sizes = sizes_of(alloc, plans)?;

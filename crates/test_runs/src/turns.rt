@@ -1,6 +1,6 @@
 //! The answers of each turn of a script.
 ghost use Rattle.std.specs.Prelude.{◌≡◌, All, length};
-ghost use Rattle.like_requests.specs.Setup.{FitsRun};
+ghost use Rattle.like_requests.specs.Setup.{IsWithinLimits};
 ghost use Rattle.like_requests.specs.Script.{IsInRun};
 ghost use Rattle.like_roles.specs.coordinator.CoordTurns.{HasEndedJoined};
 ghost use Rattle.like_promises.specs.Workload.{lists_of};
@@ -110,7 +110,7 @@ fn answers_within(
     plans: Vec<Vec<Request>>,
     script: &[Turned],
 ) -> (String, Report)
-    requires within { FitsRun setup.now (lists_of plans.items) }
+    requires within { IsWithinLimits setup.now (lists_of plans.items) }
     requires script { All (IsInRun setup.now.workers (length plans.items)) script.now }
 {
     let sizes = sizes_of(alloc, &plans).expect(rt, "memory");

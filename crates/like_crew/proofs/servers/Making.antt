@@ -4,7 +4,7 @@ use Rattle.std.specs.List.{All, AllZip}
 use Rattle.std.proofs.lemmas.List.{length-drop}
 use Rattle.like_limits.specs.Limits.{max_workers}
 use Rattle.like_requests.proofs.Planned.{plans-within}
-use Rattle.like_requests.specs.Setup.{FitsRun}
+use Rattle.like_requests.specs.Setup.{IsWithinLimits}
 use Rattle.like_requests.specs.declared.setup.Setup.{Setup}
 use Rattle.like_core.specs.declared.view.WorkerSeatView.{WorkerSeatView}
 use Rattle.like_queue.specs.Inbox.{InboxView}
@@ -46,12 +46,12 @@ others hands left rest k next before taken more =
 -- untouched inboxes for a worker, where the number of its server is that of its seat
 pub inboxes-at : (setup : Setup) (sizes : List ℕ) (number k : ℕ) (inboxes own : List InboxView)
     → number ≡ k
-    → FitsRun setup (plans_of inboxes)
+    → IsWithinLimits setup (plans_of inboxes)
     → sizes ≡ map length (plans_of inboxes)
     → AreUntouched inboxes → own ≡ dealt setup.workers k inboxes → AreInboxesFor setup sizes number own
 inboxes-at setup sizes number k inboxes own same within sized none is =
     subst (λ n. AreInboxesFor setup sizes n own) (sym same)
-    (inboxes-for setup sizes k inboxes own within.numbers.workers.0 sized none
+    (inboxes-for setup sizes k inboxes own within.0.0 sized none
     (plans-within setup (plans_of inboxes) within) is)
 
 -- its server, at the post of a new seat

@@ -1,5 +1,5 @@
 ghost use Rattle.std.specs.Prelude.{◌≡◌, All, IfOk, length, map};
-ghost use Rattle.like_requests.specs.Setup.{FitsRun};
+ghost use Rattle.like_requests.specs.Setup.{IsWithinLimits};
 ghost use Rattle.like_board.specs.Seats.{board_id, board_numbers};
 ghost use Rattle.like_roles.specs.worker.New.{AreNewSeats};
 ghost use Rattle.like_promises.specs.Workload.{workload_of};
@@ -23,7 +23,7 @@ pub fn servers_of<'a, I: Inbox>(
     seats: Vec<WorkerSeat>,
     inboxes: Vec<I>,
 ) -> Result<Vec<Server<BoardPost<'a>, I>>, AllocError>
-    requires within { FitsRun setup.now (plans_of (map I.view inboxes.items)) }
+    requires within { IsWithinLimits setup.now (plans_of (map I.view inboxes.items)) }
     requires untouched { AreUntouched (map I.view inboxes.items) }
     requires closed { All (λ inbox. I.opened inbox ≡ 0) inboxes.items }
     requires sizes { terms.sizes.now ≡ map length (plans_of (map I.view inboxes.items)) }

@@ -1,7 +1,7 @@
 ghost use Rattle.std.specs.Prelude.{◌≡◌, ◌↔◌, ◌<◌, [], IfOk, Some, length, map, slice_get, true};
 ghost use Rattle.std.specs.List.{AllZip};
 ghost use Rattle.like_core.specs.declared.worker_state.WorkerState.TheVariants.{Gone};
-ghost use Rattle.like_requests.specs.Setup.{FitsRun};
+ghost use Rattle.like_requests.specs.Setup.{IsWithinLimits};
 ghost use Rattle.like_promises.specs.Workload.{lists_of};
 ghost use Rattle.like_roles.specs.coordinator.CoordTurns.{HasEndedJoined};
 ghost use Rattle.like_roles.specs.declared.coord_turn.CoordTurn.{CoordTurn as Answer};
@@ -59,7 +59,7 @@ impl OwnCrew {
         terms: Terms<'_>,
         plans: Vec<Vec<Request>>,
     ) -> Result<OwnCrew, AllocError>
-        requires within { FitsRun setup.now (lists_of plans.items) }
+        requires within { IsWithinLimits setup.now (lists_of plans.items) }
         requires sizes { terms.sizes.now ≡ map length (lists_of plans.items) }
         ensures crew { IfOk result (IsCrewAt setup.now (lists_of plans.items) [] terms.entry.notes) }
         ensures new { IfOk result (IsNewCrew setup.now (lists_of plans.items)) }

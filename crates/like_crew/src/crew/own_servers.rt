@@ -1,7 +1,7 @@
 //! The servers of a crew whose thread owns its board: how they are made, and how they are taken apart.
 ghost use Rattle.std.specs.Prelude.{◌≡◌, [], All, IfOk, length, map};
 ghost use Rattle.std.specs.List.{AllZip};
-ghost use Rattle.like_requests.specs.Setup.{FitsRun};
+ghost use Rattle.like_requests.specs.Setup.{IsWithinLimits};
 ghost use Rattle.like_board.specs.declared.own_board.OwnBoard.{OwnBoard};
 ghost use Rattle.like_board.specs.NewViews.{new_views};
 ghost use Rattle.like_board.specs.Own.{AreNewOwn, own_opening};
@@ -30,7 +30,7 @@ pub fn own_servers<I: Inbox>(
     seats: Vec<OwnWorkerSeat>,
     inboxes: Vec<I>,
 ) -> Result<Vec<OwnServer<I>>, AllocError>
-    requires within { FitsRun setup.now (plans_of (map I.view inboxes.items)) }
+    requires within { IsWithinLimits setup.now (plans_of (map I.view inboxes.items)) }
     requires untouched { AreUntouched (map I.view inboxes.items) }
     requires closed { All (λ inbox. I.opened inbox ≡ 0) inboxes.items }
     requires sizes { terms.sizes.now ≡ map length (plans_of (map I.view inboxes.items)) }

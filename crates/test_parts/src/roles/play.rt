@@ -1,6 +1,6 @@
 ghost use Rattle.std.specs.Prelude.{◌≡◌, ◌≤◌, IfOk, length, map};
 ghost use Rattle.like_limits.specs.Limits.{max_workers};
-ghost use Rattle.like_requests.specs.Setup.{FitsRun};
+ghost use Rattle.like_requests.specs.Setup.{IsWithinLimits};
 ghost use Rattle.like_core.specs.OpeningLimits.{run_limits};
 ghost use Rattle.like_board.specs.Seats.{board_id, coord_board, coord_view};
 ghost use Rattle.like_requests.specs.Pages.{counts_of};
@@ -65,7 +65,7 @@ fn seat_players<'a>(
     seats: &mut Vec<WorkerSeat>,
     players: &mut Vec<Player<'a, BoardPost<'a>>>,
 ) -> Result<(), Fail>
-    requires within { FitsRun setup.now (lists_of plans.now) }
+    requires within { IsWithinLimits setup.now (lists_of plans.now) }
     requires sizes { terms.sizes.now ≡ map length (lists_of plans.now) }
     requires few { length terms.sizes.now ≤ setup.now.workers }
     requires seats { AreNewSeats (board_id board.now) setup.now.pages seats.old.items }
@@ -87,7 +87,7 @@ fn players_of<'a>(
     board: &'a Board,
     mut seats: Vec<WorkerSeat>,
 ) -> Result<Vec<Player<'a, BoardPost<'a>>>, Fail>
-    requires within { FitsRun setup.now (lists_of plans.now) }
+    requires within { IsWithinLimits setup.now (lists_of plans.now) }
     requires sizes { terms.sizes.now ≡ map length (lists_of plans.now) }
     requires few { length terms.sizes.now ≤ setup.now.workers }
     requires seats { AreNewSeats (board_id board.now) setup.now.pages seats.items }
@@ -123,7 +123,7 @@ impl<'a> Play<'a, BoardPost<'a>> {
         coord: CoordSeat,
         seats: Vec<WorkerSeat>,
     ) -> Result<Play<'a, BoardPost<'a>>, Fail>
-        requires within { FitsRun setup.now (lists_of plans.now) }
+        requires within { IsWithinLimits setup.now (lists_of plans.now) }
         requires sizes { terms.sizes.now ≡ map length (lists_of plans.now) }
         requires few { length terms.sizes.now ≤ setup.now.workers }
         requires coord { coord_board coord ≡ board_id board.now }

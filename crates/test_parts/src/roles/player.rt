@@ -1,6 +1,6 @@
 ghost use Rattle.std.specs.Prelude.{◌≡◌, ◌<◌, ◌≤◌, [], IfOk, length, map, slice_index_or};
 ghost use Rattle.like_limits.specs.Limits.{max_requests};
-ghost use Rattle.like_requests.specs.Setup.{FitsRun, IsWithin};
+ghost use Rattle.like_requests.specs.Setup.{IsWithin, IsWithinLimits};
 ghost use Rattle.like_promises.specs.Workload.{lists_of};
 ghost use Rattle.like_roles.specs.worker.New.{IsNewAt, IsPostOf};
 ghost use Rattle.test_parts.specs.Playing.{IsNextGiven};
@@ -90,7 +90,7 @@ impl<'a, P: Post + Drop> Player<'a, P> {
         number: u32,
         post: P,
     ) -> Result<Player<'a, P>, Fail>
-        requires within { FitsRun setup.now (lists_of plans.now) }
+        requires within { IsWithinLimits setup.now (lists_of plans.now) }
         requires sizes { terms.sizes.now ≡ map length (lists_of plans.now) }
         requires few { length terms.sizes.now ≤ setup.now.workers }
         requires is_worker { number < setup.now.workers }

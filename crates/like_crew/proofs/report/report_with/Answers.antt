@@ -1,5 +1,6 @@
 use Rattle.std.proofs.Common.{◌≡◌, ◌<◌, ◌≤◌, ℕ, All, List, length, map, slice_get, refl, sym, ap, ◌∙◌, subst, arith}
 use Rattle.std.proofs.lemmas.List.{length-map}
+use Rattle.like_requests.proofs.Planned.{plans-there}
 use Rattle.like_requests.specs.Pages.{Page}
 use Rattle.like_requests.specs.Verdict.{home}
 use Rattle.like_requests.specs.declared.request.Request.{Request}
@@ -27,7 +28,7 @@ replies_of-requires c =
     (runs-once (known c.args.setup.now plans c.args.terms.notes e c.requires.outcome) c.args.setup.now.workers
     e.logs.items c.args.terms.sizes.now c.requires.sizes
     (logs-size c.args.setup.now plans c.args.terms.notes e c.requires.outcome)
-    c.requires.within.numbers.workers.0
+    c.requires.within.0.0
     (log-at c.args.setup.now plans c.args.terms.notes e c.requires.outcome c.requires.outcome.left.counts.closed.masks))
     c.requires.collected
 
@@ -42,8 +43,9 @@ pub last_likes-requires-clause-submitters : goal.last_likes-requires-clause-subm
 last_likes-requires-clause-submitters c =
     omega (
       arith,
-      ap (λ (xs : List ℕ). length xs) c.requires.sizes,
-      c.requires.within.numbers.submitters.0,
+      submitters-are (length c.args.terms.sizes.now) c.args.terms.sizes.now (lists_of c.args.plans.now.value.items) refl
+          c.requires.sizes,
+      c.requires.within.1.0.0,
     )
 
 pub last_likes-requires-clause-logs : goal.last_likes-requires-clause-logs
@@ -52,7 +54,7 @@ last_likes-requires-clause-logs c =
     (lists_of c.args.plans.now.value.items) c.args.terms.notes c.args.outcome c.requires.outcome in
     let same : length c.deref.result.now ≡ c.args.setup.now.workers =
     ap (λ (xs : List WorkerLog). length xs) c.deref.ensures.value ∙ size in
-    let some : 1 ≤ c.args.setup.now.workers = c.requires.within.numbers.workers.0 in
+    let some : 1 ≤ c.args.setup.now.workers = c.requires.within.0.0 in
     omega (arith, same, some)
 
 pub last_likes-requires-clause-tables : goal.last_likes-requires-clause-tables
@@ -72,7 +74,7 @@ places_of-requires-clause-few c =
       arith,
       ap (λ (xs : List WorkerLog). length xs) c.deref-2.ensures.value,
       size,
-      c.requires.within.numbers.workers.1,
+      c.requires.within.0.1,
     )
 
 pub places_of-requires-clause-there : goal.places_of-requires-clause-there
@@ -80,7 +82,7 @@ places_of-requires-clause-there c notes =
     let plans : List (List Request) = lists_of c.args.plans.now.value.items in
     let closed = c.requires.outcome.left.counts.closed in
     let there = all-there c.args.setup.now plans c.args.terms.notes c.args.outcome c.requires.outcome closed.masks
-    closed.counted notes c.requires.within.there in
+    closed.counted notes (plans-there c.args.setup.now plans c.requires.within) in
     subst (λ (n : ℕ). All (λ (log : WorkerLog). All (λ (a : Added). a.page < n) log.adds.items) c.deref-2.result.now)
     (sym c.len.ensures.len)
     (subst (λ (logs : List WorkerLog). All
@@ -120,7 +122,7 @@ returns-clause-report c =
           (λ page there. told.totals page (omega (arith, there, pages)));
       last = last-likes-are
           (workload_by c.args.setup.now plans (entries_in e.logs.items)) workers e.logs.items c.in_ok-last.last.items size
-          c.requires.within.numbers.workers.0 (λ worker log at. (logs worker log at).0) c.in_ok-last.ensures.len
+          c.requires.within.0.0 (λ worker log at. (logs worker log at).0) c.in_ok-last.ensures.len
           (λ user log there at.
           c.in_ok-last.ensures.last user log there
           (ap (λ (logs : List WorkerLog). slice_get logs (worker_of (length logs) (home (length sizes) user)))
@@ -133,7 +135,7 @@ returns-clause-report c =
     (λ notes. record {
       likes = of-likes c.args.setup.now plans c.args.terms.notes e h closed.masks closed.counted notes closed.phases;
       tiles = tiles-are c.args.setup.now plans c.args.terms.notes e h closed.masks closed.counted notes
-          c.requires.within.there e.counts.items pages
+          (plans-there c.args.setup.now plans c.requires.within) e.counts.items pages
           (λ page there. told.totals page (omega (arith, there, pages))) closed.places;
       placed = placed-are c.args.setup.now plans c.args.terms.notes e h closed.masks closed.counted notes closed.places;
       in_time = stand-are c.args.setup.now plans c.args.terms.notes e h closed.masks closed.counted notes

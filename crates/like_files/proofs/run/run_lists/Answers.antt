@@ -1,6 +1,6 @@
 use Rattle.std.proofs.Common.{inr, refl}
 use Rattle.std.proofs.lemmas.Result.{err_from_is_err_and}
-use Rattle.like_requests.proofs.Planned.{fits-run, plans-within}
+use Rattle.like_requests.proofs.Planned.{plans-within}
 use Rattle.like_promises.specs.Workload.{lists_of}
 use Rattle.like_promises.specs.Report.{workload_by}
 use Rattle.like_files.proofs.Ended.{few_requests, not-before, one_list_a_page, run-refused, run-unwritten}
@@ -11,7 +11,7 @@ pub new-requires : goal.new-requires
 new-requires g c = record {
   writable = IsWritable-end_to_end
       (workload_by c.args.setup.now (lists_of c.args.plans.items) c.in_ok-report.ensures.report.serial)
-      (plans-within _ _ (fits-run _ _ c.in_ok-report.ensures.within))
+      (plans-within _ _ c.in_ok-report.ensures.within)
       c.args.setup.now.workers c.in_ok-report.report c.in_ok-report.ensures.report.serial
       c.in_ok-report.ensures.report.right;
   placed = λ wanted. one_list_a_page c.args.setup.now (lists_of c.args.plans.items) c.in_ok-report.report

@@ -2,7 +2,6 @@ use Rattle.std.proofs.Common.{◌≡◌, ◌∙◌, ℕ, List, Vec, Global, leng
 use Rattle.std.specs.List.{All}
 use Rattle.std.proofs.lemmas.List.{length-map}
 use Rattle.std.proofs.lemmas.Result.{err_from_is_err_and}
-use Rattle.like_requests.proofs.Planned.{fits-run}
 use Rattle.like_requests.specs.Setup.{IsFirstBroken, IsWithinLimits}
 use Rattle.like_requests.specs.declared.request.Request.{Request}
 use Rattle.like_requests.specs.declared.setup.Setup.{Setup}
@@ -19,9 +18,8 @@ requests_of plan = plan.items
 
 pub replay_within-requires-clause-within : goal.replay_within-requires-clause-within
 replay_within-requires-clause-within c =
-    fits-run c.args.setup.now (map requests_of c.args.plans.items)
-    (subst (λ (xs : List (Vec Request Global)). IsWithinLimits c.args.setup.now (map requests_of xs))
-    c.deref.ensures.value c.in_ok-check_setup.ensures)
+    subst (λ (xs : List (Vec Request Global)). IsWithinLimits c.args.setup.now (map requests_of xs))
+    c.deref.ensures.value c.in_ok-check_setup.ensures
 
 pub replay_within-requires-clause-script : goal.replay_within-requires-clause-script
 replay_within-requires-clause-script c =

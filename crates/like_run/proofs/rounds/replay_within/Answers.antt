@@ -2,7 +2,7 @@ use Rattle.std.proofs.Common.{◌≡◌, ◌≤◌, ◌∙◌, All, List, [], Ve
 use Rattle.std.specs.List.{AllZip}
 use Rattle.std.proofs.lemmas.List.{length-map}
 use Rattle.std.proofs.lemmas.Result.{err_from_is_err_and}
-use Rattle.like_requests.specs.Setup.{FitsRun}
+use Rattle.like_requests.specs.Setup.{IsWithinLimits}
 use Rattle.like_requests.specs.declared.request.Request.{Request}
 use Rattle.like_requests.specs.Script.{IsInRun}
 use Rattle.like_core.specs.declared.opening.Opening.{Opening}
@@ -35,7 +35,7 @@ new-requires-clause-sizes c =
 pub play-requires-clause-script : goal.play-requires-clause-script
 play-requires-clause-script c = λ k d within.
     can-make c.args.setup.now (lists_of c.args.plans.items) [] c.args.notes c.in_ok-crew.crew
-    (get_or c.args.script.now k d) c.in_ok-crew.ensures.crew c.requires.within.numbers.workers.0
+    (get_or c.args.script.now k d) c.in_ok-crew.ensures.crew c.requires.within.0.0
     (subst (λ n. IsInRun c.args.setup.now.workers n (get_or c.args.script.now k d))
     (sym (length-map c.args.plans.items requests_of)) (c.requires.script k d within))
 
@@ -48,8 +48,8 @@ play-requires-clause-all c =
 
 pub report_of-requires-clause-within : goal.report_of-requires-clause-within
 report_of-requires-clause-within c =
-    subst (λ (v : Vec (Vec Request Global) Global). FitsRun c.args.setup.now (lists_of v.items)) (sym c.of-lists.ensures)
-    c.requires.within
+    subst (λ (v : Vec (Vec Request Global) Global). IsWithinLimits c.args.setup.now (lists_of v.items))
+    (sym c.of-lists.ensures) c.requires.within
 
 pub report_of-requires-clause-sizes : goal.report_of-requires-clause-sizes
 report_of-requires-clause-sizes c =
@@ -93,4 +93,4 @@ returns-in_err-outcome-clause-fault c =
     let p = err_from_is_err_and c.from_residual-in_err-outcome.result c.from_residual-in_err-outcome.ensures.1 in
     rw (p.1, p.2)
     (under-way c.args.setup.now (lists_of c.args.plans.items) c.args.script.now c.in_ok-crew.crew
-    c.in_err-outcome.field-0.0 c.requires.within.numbers.workers.0 c.in_ok-crew.ensures.new c.in_err-outcome.ensures.fault)
+    c.in_err-outcome.field-0.0 c.requires.within.0.0 c.in_ok-crew.ensures.new c.in_err-outcome.ensures.fault)

@@ -2,7 +2,7 @@ use Rattle.std.proofs.Common.{◌≡◌, ◌≤◌, ◌+◌, ◌∙◌, ℕ, Lis
 use Rattle.std.proofs.lemmas.List.{length-map}
 use Rattle.std.proofs.lemmas.Result.{IfOk-weaker}
 use Rattle.like_limits.specs.Limits.{max_submitters}
-use Rattle.like_requests.specs.Setup.{FitsRun}
+use Rattle.like_requests.specs.Setup.{IsWithinLimits}
 use Rattle.like_requests.specs.declared.request.Request.{Request}
 use Rattle.like_requests.specs.declared.setup.Setup.{Setup}
 use Rattle.like_board.specs.Seats.{board_id, board_numbers}
@@ -65,7 +65,7 @@ of_inboxes-requires-clause-within g c =
     let plans = plans-taken
     (lists_of c.args.plans.items) c.in_ok-lines.field-0 c.in_ok-sends.takes.items c.in_ok-lines.ensures
     (c.in_ok-sends.ensures.takes ∙ ap (map new_taker) c.deref.ensures.value) in
-    subst (FitsRun c.args.setup.now) (sym plans) c.requires.within
+    subst (IsWithinLimits c.args.setup.now) (sym plans) c.requires.within
 
 pub of_inboxes-requires-clause-untouched : goal.of_inboxes-requires-clause-untouched
 of_inboxes-requires-clause-untouched g c =
@@ -86,7 +86,7 @@ of_inboxes-requires-clause-site g c =
 pub on_threads-requires-after_bounds : goal.on_threads-requires-after_bounds
 on_threads-requires-after_bounds g c κs within =
     let few : length (lists_of c.args.plans.items) ≤ max_submitters =
-    omega (arith, c.requires.within.numbers.submitters.1, length-map (lists_of c.args.plans.items) length) in
+    c.requires.within.1.0.1 in
     ends-new (lists_of c.args.plans.items) c.in_ok-lines.field-0 c.in_ok-sends.sends.items c.in_ok-lines.ensures few
     (c.in_ok-sends.ensures.sends ∙ ap (map new_sender) c.deref.ensures.value)
 

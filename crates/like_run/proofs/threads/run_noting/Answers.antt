@@ -1,6 +1,5 @@
 use Rattle.std.proofs.Common.{List, Vec, Global, map, rules, subst, Result, Ok, Err, IfErr, OnOk}
 use Rattle.std.proofs.lemmas.Result.{err_from_is_err_and}
-use Rattle.like_requests.proofs.Planned.{fits-run}
 use Rattle.like_requests.specs.Setup.{IsFirstBroken, IsWithinLimits}
 use Rattle.like_requests.specs.declared.request.Request.{Request}
 use Rattle.like_requests.specs.declared.setup.Setup.{Setup}
@@ -19,9 +18,8 @@ run_within-requires g c = (
   search rules,
   (
     search rules,
-    fits-run c.args.setup.now (map requests_of c.args.plans.items)
-        (subst (λ (xs : List (Vec Request Global)). IsWithinLimits c.args.setup.now (map requests_of xs))
-        c.deref.ensures.value c.in_ok-check_setup.ensures),
+    subst (λ (xs : List (Vec Request Global)). IsWithinLimits c.args.setup.now (map requests_of xs))
+        c.deref.ensures.value c.in_ok-check_setup.ensures,
   ),
 )
 

@@ -1,5 +1,5 @@
 use Rattle.std.proofs.Common.{List, Vec, Global, sym, ap, subst}
-use Rattle.like_requests.specs.Setup.{FitsRun}
+use Rattle.like_requests.specs.Setup.{IsWithinLimits}
 use Rattle.like_requests.specs.declared.request.Request.{Request}
 use Rattle.like_promises.specs.Workload.{lists_of}
 use Rattle.like_crew.specs.Ended.{IsEnded}
@@ -9,7 +9,7 @@ use Rattle.like_run.proofs.threads.run_within.Goals as goal
 
 pub new-requires : goal.new-requires
 new-requires g c =
-    subst (λ (xs : List (Vec Request Global)). FitsRun c.args.setup.now (lists_of xs))
+    subst (λ (xs : List (Vec Request Global)). IsWithinLimits c.args.setup.now (lists_of xs))
     (sym c.deref.ensures.value) c.requires
 
 pub report_in_parallel-requires-clause-site : goal.report_in_parallel-requires-clause-site
@@ -26,8 +26,8 @@ report_in_parallel-requires-clause-ended g c κs lives =
 
 pub report_in_parallel-requires-clause-within : goal.report_in_parallel-requires-clause-within
 report_in_parallel-requires-clause-within g c κs lives =
-    subst (λ (v : Vec (Vec Request Global) Global). FitsRun c.args.setup.now (lists_of v.items)) (sym c.of-lists.ensures)
-    c.requires
+    subst (λ (v : Vec (Vec Request Global) Global). IsWithinLimits c.args.setup.now (lists_of v.items))
+    (sym c.of-lists.ensures) c.requires
 
 pub returns-clause-report : goal.returns-clause-report
 returns-clause-report g c =

@@ -1,7 +1,6 @@
 use Rattle.std.proofs.Common.{◌∙◌, List, Vec, Global, map, subst}
 use Rattle.std.specs.List.{All}
 use Rattle.std.specs.Prelude.{MatchResult}
-use Rattle.like_requests.proofs.Planned.{fits-run}
 use Rattle.like_requests.specs.Setup.{IsFirstBroken, IsWithinLimits}
 use Rattle.like_requests.specs.declared.request.Request.{Request}
 use Rattle.like_requests.specs.Script.{IsFirstAway, IsInRun}
@@ -12,11 +11,10 @@ requests_of plan = plan.items
 
 pub answers_within-requires-clause-within : goal.answers_within-requires-clause-within
 answers_within-requires-clause-within g c =
-    fits-run c.args.setup.now (map requests_of c.args.plans.items)
-    (subst (λ (xs : List (Vec Request Global)). IsWithinLimits c.args.setup.now (map requests_of xs))
+    subst (λ (xs : List (Vec Request Global)). IsWithinLimits c.args.setup.now (map requests_of xs))
     c.deref.ensures.value
     (subst (λ r. MatchResult r (λ _. IsWithinLimits c.args.setup.now (map requests_of c.deref.result.now))
-    (IsFirstBroken c.args.setup.now (map requests_of c.deref.result.now))) c.expect.ensures c.check_setup.ensures))
+    (IsFirstBroken c.args.setup.now (map requests_of c.deref.result.now))) c.expect.ensures c.check_setup.ensures)
 
 pub answers_within-requires-clause-script : goal.answers_within-requires-clause-script
 answers_within-requires-clause-script g c =

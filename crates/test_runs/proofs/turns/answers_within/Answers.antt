@@ -2,7 +2,7 @@ use Rattle.std.proofs.Common.{◌≡◌, ◌≤◌, ◌∙◌, ℕ, All, List, [
 use Rattle.std.specs.Prelude.{IfOk}
 use Rattle.std.proofs.lemmas.List.{length-map}
 use Rattle.like_limits.specs.Limits.{max_requests}
-use Rattle.like_requests.specs.Setup.{FitsRun}
+use Rattle.like_requests.specs.Setup.{IsWithinLimits}
 use Rattle.like_requests.specs.declared.request.Request.{Request}
 use Rattle.like_requests.specs.Script.{IsInRun}
 use Rattle.like_core.specs.declared.opening.Opening.{Opening}
@@ -33,7 +33,7 @@ pub play-words-requires-clause-script : goal.play-words-requires-clause-script
 play-words-requires-clause-script g c = λ k d within.
     can-make c.args.setup.now (lists_of c.args.plans.items) [] true c.expect-crew.result (get_or c.args.script.now k d)
     (subst (λ r. IfOk r (IsCrewAt c.args.setup.now (lists_of c.args.plans.items) [] true)) c.expect-crew.ensures
-    c.new.ensures.crew) c.requires.within.numbers.workers.0
+    c.new.ensures.crew) c.requires.within.0.0
     (subst (λ n. IsInRun c.args.setup.now.workers n (get_or c.args.script.now k d))
     (sym (length-map c.args.plans.items requests_of)) (c.requires.script k d within))
 
@@ -47,8 +47,8 @@ play-words-requires-clause-all g c =
 
 pub report_of-requires-clause-within : goal.report_of-requires-clause-within
 report_of-requires-clause-within g c =
-    subst (λ (v : Vec (Vec Request Global) Global). FitsRun c.args.setup.now (lists_of v.items)) (sym c.of-lists.ensures)
-    c.requires.within
+    subst (λ (v : Vec (Vec Request Global) Global). IsWithinLimits c.args.setup.now (lists_of v.items))
+    (sym c.of-lists.ensures) c.requires.within
 
 pub report_of-requires-clause-sizes : goal.report_of-requires-clause-sizes
 report_of-requires-clause-sizes g c =

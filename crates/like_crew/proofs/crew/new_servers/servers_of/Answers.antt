@@ -4,6 +4,7 @@ use Rattle.std.proofs.lemmas.Iterator.Consumers.{YieldsList-end, YieldsList-turn
 use Rattle.std.specs.List.{AllZip, range_with_len}
 use Rattle.std.proofs.lemmas.List.{length_push}
 use Rattle.std.proofs.lemmas.Option.{slice_get_read}
+use Rattle.like_requests.proofs.Planned.{worker-within}
 use Rattle.like_requests.specs.Setup.{IsWithin}
 use Rattle.like_board.specs.Seats.{board_id, board_numbers, seat_view}
 use Rattle.like_core.specs.declared.view.WorkerSeatView.{WorkerSeatView}
@@ -18,7 +19,9 @@ use Rattle.like_crew.proofs.servers.Making.{fits-worker, hand-closed, hand-is, h
 use Rattle.like_crew.proofs.crew.new_servers.servers_of.Goals as goal
 
 pub new-requires-clause-within : goal.new-requires-clause-within
-new-requires-clause-within g c = subst (IsWithin c.args.setup.now) (sym c.requires.sizes) c.requires.within.numbers
+new-requires-clause-within g c =
+    subst (IsWithin c.args.setup.now) (sym c.requires.sizes)
+    (worker-within c.args.setup.now (plans_of (map g.I.Inbox.view c.args.inboxes.items)) c.requires.within)
 
 pub new-requires-clause-post : goal.new-requires-clause-post
 new-requires-clause-post g c =
@@ -108,7 +111,7 @@ loop-seat-preserved g c =
     }
 
 pub deal-requires : goal.deal-requires
-deal-requires g c = c.requires.within.numbers.workers.0
+deal-requires g c = c.requires.within.0.0
 
 pub loop-seat-init : goal.loop-seat-init
 loop-seat-init g c = record {
@@ -132,7 +135,7 @@ overflow_cast-number g c =
     c.next.ensures.steps in
     fits-worker c.len-number.result (length l.yielded) c.args.setup.now.workers
     (c.len-number.ensures ∙ l.servers.ok.0 ∙ l.invariant.len) (subst (λ n. length l.yielded < n) c.requires.len turn.0)
-    c.requires.within.numbers.workers.1
+    c.requires.within.0.1
 
 pub new-requires-clause-is_worker : goal.new-requires-clause-is_worker
 new-requires-clause-is_worker g c =

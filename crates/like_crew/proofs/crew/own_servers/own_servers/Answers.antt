@@ -4,6 +4,7 @@ use Rattle.std.proofs.lemmas.Iterator.Consumers.{YieldsList-end, YieldsList-turn
 use Rattle.std.specs.List.{AllZip, range_with_len}
 use Rattle.std.proofs.lemmas.List.{length-map, length_push, map_push}
 use Rattle.std.proofs.lemmas.Option.{slice_get_read}
+use Rattle.like_requests.proofs.Planned.{worker-within}
 use Rattle.like_requests.specs.Setup.{IsWithin}
 use Rattle.like_core.specs.declared.opening.Opening.{Opening}
 use Rattle.like_core.specs.declared.view.View.TheVariants.{Coord, Worker}
@@ -27,7 +28,7 @@ use Rattle.like_crew.proofs.servers.OwnMaking.{each-more, own-post, workers-more
 use Rattle.like_crew.proofs.crew.own_servers.own_servers.Goals as goal
 
 pub deal-requires : goal.deal-requires
-deal-requires g c = c.requires.within.numbers.workers.0
+deal-requires g c = c.requires.within.0.0
 
 pub loop-seat-init : goal.loop-seat-init
 loop-seat-init g c =
@@ -55,7 +56,7 @@ overflow_cast-number g c =
     let turn = YieldsList-turn all l.yielded _ l.yielded_by _ c.next.new.self c.in-Some.seat c.in-Some.is
     c.next.ensures.steps in
     fits-worker c.len-number.result k c.args.setup.now.workers (c.len-number.ensures ∙ l.servers.ok.0 ∙ l.invariant.len)
-    (subst (λ n. k < n) c.requires.len turn.0) c.requires.within.numbers.workers.1
+    (subst (λ n. k < n) c.requires.len turn.0) c.requires.within.0.1
 
 pub remove-inboxes-requires : goal.remove-inboxes-requires
 remove-inboxes-requires g c =
@@ -71,7 +72,9 @@ remove-inboxes-requires g c =
     c.in_ok-hands.ensures.len (subst (λ n. k < n) c.requires.len turn.0))
 
 pub new-requires-clause-within : goal.new-requires-clause-within
-new-requires-clause-within g c = subst (IsWithin c.args.setup.now) (sym c.requires.sizes) c.requires.within.numbers
+new-requires-clause-within g c =
+    subst (IsWithin c.args.setup.now) (sym c.requires.sizes)
+    (worker-within c.args.setup.now (plans_of (map g.I.Inbox.view c.args.inboxes.items)) c.requires.within)
 
 pub new-requires-clause-is_worker : goal.new-requires-clause-is_worker
 new-requires-clause-is_worker g c =

@@ -1,6 +1,7 @@
 use Rattle.std.proofs.Common.{◌≡◌, ◌≤◌, ◌∙◌, ℕ, List, Vec, Global, Bool, length, map, sym, ap, subst, refl}
 use Rattle.std.specs.List.{All}
 use Rattle.std.proofs.lemmas.List.{length-map}
+use Rattle.like_requests.proofs.Planned.{plans-within}
 use Rattle.like_requests.specs.Pages.{Page}
 use Rattle.like_requests.specs.declared.request.Request.{Request}
 use Rattle.like_limits.specs.Limits.{max_count, max_pages, max_requests}
@@ -17,7 +18,7 @@ requests_of plan = plan.items
 pub sizes_of-requires : goal.sizes_of-requires
 sizes_of-requires c =
     all-back requests_of (λ plan. length plan ≤ max_requests) c.args.plans.now
-    (all-back length (λ n. n ≤ max_requests) (map requests_of c.args.plans.now) c.requires.numbers.small)
+    (λ k d h. (plans-within c.args.setup.now (map requests_of c.args.plans.now) c.requires k d h).few)
 
 pub new-requires-clause-counts : goal.new-requires-clause-counts
 new-requires-clause-counts c =
@@ -62,7 +63,7 @@ new-requires-clause-few_pages c =
     ∙ length-map c.args.setup.now.pages (λ (p : Page). p.count))) c.counts.ensures.pages.entries.few
 
 pub new-requires-clause-some_worker : goal.new-requires-clause-some_worker
-new-requires-clause-some_worker c = c.requires.numbers.workers.0
+new-requires-clause-some_worker c = c.requires.0.0
 
 pub new-requires-clause-few_workers : goal.new-requires-clause-few_workers
-new-requires-clause-few_workers c = c.requires.numbers.workers.1
+new-requires-clause-few_workers c = c.requires.0.1

@@ -3,7 +3,7 @@ use Rattle.std.specs.List.{All}
 use Rattle.std.proofs.lemmas.List.{length-map}
 use Rattle.like_limits.specs.Limits.{max_count, max_pages}
 use Rattle.like_requests.specs.Pages.{Page}
-use Rattle.like_requests.specs.Setup.{FitsRun}
+use Rattle.like_requests.specs.Setup.{IsWithinLimits}
 use Rattle.like_core.specs.core.State.{opening}
 use Rattle.like_core.specs.declared.view.CoordSeatView.{CoordSeatView}
 use Rattle.like_board.specs.Led.{no_board}
@@ -37,10 +37,10 @@ new-requires-clause-few_pages c =
     ∙ length-map c.args.setup.now.pages (λ (p : Page). p.count))) c.counts.ensures.pages.entries.few
 
 pub new-requires-clause-some_worker : goal.new-requires-clause-some_worker
-new-requires-clause-some_worker c = c.requires.within.numbers.workers.0
+new-requires-clause-some_worker c = c.requires.within.0.0
 
 pub new-requires-clause-few_workers : goal.new-requires-clause-few_workers
-new-requires-clause-few_workers c = c.requires.within.numbers.workers.1
+new-requires-clause-few_workers c = c.requires.within.0.1
 
 pub list_inboxes-requires : goal.list_inboxes-requires
 list_inboxes-requires c = all-small c.args.setup.now c.args.plans.items c.requires.within
@@ -49,7 +49,7 @@ pub own_servers-requires-clause-within : goal.own_servers-requires-clause-within
 own_servers-requires-clause-within c =
     let plans = plans-are (map view_of c.in_ok-inboxes.inboxes.items) (lists_of c.args.plans.items)
     c.in_ok-inboxes.ensures.untouched in
-    subst (FitsRun c.args.setup.now) (sym plans) c.requires.within
+    subst (IsWithinLimits c.args.setup.now) (sym plans) c.requires.within
 
 pub own_servers-requires-clause-untouched : goal.own_servers-requires-clause-untouched
 own_servers-requires-clause-untouched c =
