@@ -85,8 +85,7 @@ module _ (s : Setup) (plans : List (List Request)) where
   pub plans-within : IsWithinLimits s plans → All (IsPlan s.pages) plans
   plans-within w k d h = subst (IsPlan s.pages) (any plans k d h)
       (plan-holds 0 (length plans) k (all-first (Holds s plans) lists (Hot ∷ []) w.1.1.1.1.1) (omega arith)
-      (omega arith))
-  where
+      (omega arith)) where
     lists : List SettingsFault
     lists = map Plan (range_with_len 0 (length plans))
 
