@@ -27,10 +27,6 @@ module _ {X : Type 0} (Good : X → Type 0) where
   all-first [] ys all = tt
   all-first (x ∷ xs) ys all = (all.0, all-first xs ys all.1)
 
-  all-rest : (xs ys : List X) → AllByRecursion Good (xs ++ ys) → AllByRecursion Good ys
-  all-rest [] ys all = all
-  all-rest (x ∷ xs) ys all = all-rest xs ys all.1
-
 module _ (s : Setup) (plans : List (List Request)) where
   -- the first list that is not good, behind those that are
   plan-fails : (a n i : ℕ) (rest : List SettingsFault) → a ≤ i → i < a + n → ((k : ℕ) → k < i → Holds s plans (Plan k))

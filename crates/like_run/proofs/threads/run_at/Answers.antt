@@ -85,8 +85,7 @@ of_inboxes-requires-clause-site g c =
 
 pub on_threads-requires-after_bounds : goal.on_threads-requires-after_bounds
 on_threads-requires-after_bounds g c κs within =
-    let few : length (lists_of c.args.plans.items) ≤ max_submitters =
-    c.requires.within.1.0.1 in
+    let few : length (lists_of c.args.plans.items) ≤ max_submitters = c.requires.within.1.0.1 in
     ends-new (lists_of c.args.plans.items) c.in_ok-lines.field-0 c.in_ok-sends.sends.items c.in_ok-lines.ensures few
     (c.in_ok-sends.ensures.sends ∙ ap (map new_sender) c.deref.ensures.value)
 
