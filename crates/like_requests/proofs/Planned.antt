@@ -82,13 +82,13 @@ module _ (s : Setup) (plans : List (List Request)) where
   plans-within w k d h = subst (IsPlan s.pages) (any plans k d h)
       (plan-holds 0 (length plans) k (all-first (Holds s plans) lists (Hot ∷ []) w.1.1.1.1.1) (omega arith)
       (omega arith)) where
-    lists : List SettingsFault
-    lists = map Plan (range_with_len 0 (length plans))
+        lists : List SettingsFault
+        lists = map Plan (range_with_len 0 (length plans))
 
-    any : (xs : List (List Request)) (k : ℕ) (d : List Request) → k < length xs → get_or xs k [] ≡ get_or xs k d
-    any [] k d h = absurd (omega arith)
-    any (x ∷ xs) zero d h = refl
-    any (x ∷ xs) (suc k) d h = any xs k d (omega arith)
+        any : (xs : List (List Request)) (k : ℕ) (d : List Request) → k < length xs → get_or xs k [] ≡ get_or xs k d
+        any [] k d h = absurd (omega arith)
+        any (x ∷ xs) zero d h = refl
+        any (x ∷ xs) (suc k) d h = any xs k d (omega arith)
 
   -- each page that the lists know exists
   pub plans-there : IsWithinLimits s plans → All (AreThere s.pages) plans
