@@ -17,7 +17,7 @@ use Rattle.like_promises.specs.RunStore.{count_at, start, store_after}
 use Rattle.like_promises.specs.Serial.{entries_by}
 use Rattle.like_promises.specs.Store.{replies}
 use Rattle.like_promises.specs.Workload.{Workload, workload_of}
-use Rattle.like_promises.specs.places.Tiling.{ArePlacesTiled, HasNoPlaces}
+use Rattle.like_promises.specs.places.Tiling.{ArePlacesTiled}
 
 -- the report of one thread, which ran these entries: those of each worker, in their order, are its run list, and there
 -- are no others; phases never fall; the replies are those of the store; final counts and last likes are the store's at
@@ -62,9 +62,10 @@ workload_by setup plans serial =
     let plain = workload_of setup plans in
     record plain { hot = hot_by setup.hot (length plain.pages) (grew plain serial) }
 
--- the report of one thread, of settings and plans, with right places if workers note their additions, and else with none
+-- the report of one thread, of settings and plans: with right places if workers note their additions, and else with no
+-- places and no noted addition
 pub record IsReportOf (setup : Setup) (plans : List (List Request)) (notes : Bool) (r : Report) : Type 0 where
   pub serial : List Ran
   pub right : IsRunOf (workload_by setup plans serial) setup.workers r serial
   pub places : notes ≡ true → ArePlacesTiled (workload_by setup plans serial) r serial
-  pub none : notes ≡ false → HasNoPlaces r
+  pub none : notes ≡ false → (r.places.items ≡ []) × All (λ log. log.adds.items ≡ []) r.logs.items

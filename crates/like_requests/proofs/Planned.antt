@@ -6,11 +6,16 @@ use Rattle.std.proofs.lemmas.List.{length-map}
 use Rattle.std.proofs.lemmas.List.Elements.{All-map}
 use Rattle.like_records.specs.First.{FailsFirst}
 use Rattle.like_limits.specs.Limits.{max_requests, max_submitters}
-use Rattle.like_requests.specs.Setup.{AreNumbersWithin, AreThere, Holds, IsFirstBroken, IsHotLimit, IsPlan, IsWithin, IsWithinLimits, number_limits}
+use Rattle.like_requests.specs.Setup.{AreNumbersWithin, Holds, IsFirstBroken, IsHotLimit, IsPlan, IsThere, IsWithin, IsWithinLimits, number_limits}
+use Rattle.like_requests.specs.Pages.{Page}
 use Rattle.like_requests.specs.declared.request.Request.{Request}
 use Rattle.like_requests.specs.declared.setup.Setup.{Setup}
 use Rattle.like_requests.specs.declared.setup.SettingsFault.{SettingsFault}
 use Rattle.like_requests.specs.declared.setup.SettingsFault.TheVariants.{Hot, Plan}
+
+-- each page that the requests know exists
+abbrev pub AreThere : List Page → List Request → Type 0
+AreThere pages plan = All (λ r. IsThere (length pages) r.page) plan
 
 module _ {X : Type 0} (Good : X → Type 0) where
   -- the first test that fails is behind those that hold

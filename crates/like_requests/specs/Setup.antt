@@ -17,14 +17,10 @@ abbrev pub IsThere : ℕ → PageRef → Type 0
 IsThere pages (Known page) = page < pages
 IsThere pages Unknown = ⊤
 
--- each page that the requests know exists
-abbrev pub AreThere : List Page → List Request → Type 0
-AreThere pages plan = All (λ r. IsThere (length pages) r.page) plan
-
 -- a submitter's list is not too long, and each page that it knows exists
 pub record IsPlan (pages : List Page) (plan : List Request) : Type 0 where
   pub few : length plan ≤ max_requests
-  pub there : AreThere pages plan
+  pub there : All (λ r. IsThere (length pages) r.page) plan
 
 -- how many likes make a page hot, if any do
 abbrev pub IsHotLimit : Option ℕ → Type 0

@@ -1,5 +1,6 @@
 -- A report that is right end to end is that of one thread, and the other way round.
 use Rattle.std.proofs.Common.{◌≡◌, ℕ, Bool, true, false, zero, suc, ◌+◌, ◌<◌, ◌==◌, List, [], ◌∷◌, filter, map, length, get_or, slice_get, Some, subst, ap, sym, ◌∙◌, refl, arith}
+use Rattle.std.specs.List.{All}
 use Rattle.like_requests.specs.declared.request.Request.{Request}
 use Rattle.like_requests.specs.declared.setup.Setup.{Setup}
 use Rattle.like_core.specs.declared.view.Addition.{Addition}
@@ -16,7 +17,7 @@ use Rattle.like_promises.specs.Report.{IsReportOf, IsRunOf, workload_by}
 use Rattle.like_promises.specs.Serial.{IsSerial, entries_by, run_of}
 use Rattle.like_promises.specs.Workload.{Workload, workload_of}
 use Rattle.like_promises.specs.places.Calls.{calls_of}
-use Rattle.like_promises.specs.places.Tiling.{ArePlacesTiled, HasNoPlaces}
+use Rattle.like_promises.specs.places.Tiling.{ArePlacesTiled}
 use Rattle.like_serial.specs.Laws.{OneThreadIsRight, RightIsOneThread}
 use Rattle.like_serial.proofs.Answers.{own_answers}
 use Rattle.like_serial.proofs.Collected.{entries_same}
@@ -207,7 +208,7 @@ places_by_one setup plans r serial run places =
 pub right_is_report : (setup : Setup) (plans : List (List Request)) (notes : Bool) (r : Report)
     → IsRightReport setup plans r
     → (notes ≡ true → HasRightPlaces setup plans r)
-    → (notes ≡ false → HasNoPlaces r)
+    → (notes ≡ false → (r.places.items ≡ []) × All (λ log. log.adds.items ≡ []) r.logs.items)
     → IsReportOf setup plans notes r
 right_is_report setup plans notes r right places none =
     let one = right_is_one_thread setup plans r right in

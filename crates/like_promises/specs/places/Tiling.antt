@@ -1,5 +1,5 @@
 -- What a report says of the places of the additions to each page.
-use Rattle.std.specs.Prelude.{◌≡◌, ℕ, ◌+◌, ◌≤◌, ◌&&◌, nat_le, nat_lt, if◌then◌else◌, All, List, [], count_by, length, map, slice_index}
+use Rattle.std.specs.Prelude.{◌≡◌, ℕ, ◌+◌, ◌≤◌, ◌&&◌, nat_le, nat_lt, if◌then◌else◌, All, List, count_by, length, map, slice_index}
 use Rattle.std.specs.List.{flat_map}
 use Rattle.like_core.specs.declared.view.Addition.{Addition}
 use Rattle.like_core.specs.views.Places.{ArePlaced, covers, end_of}
@@ -29,7 +29,3 @@ pub record ArePlacesTiled (workload : Workload) (r : Report) (serial : List Ran)
       × (end_of c ≤ count_at workload serial c.page (c.phase + 1))) (calls_of workload log.adds.items log.ran.items))
       r.logs.items
   pub rows : ArePlaces (length workload.pages) r.logs.items (map (λ row. row.items) r.places.items)
-
--- a report has no places, and no addition is noted
-abbrev pub HasNoPlaces : Report → Type 0
-HasNoPlaces r = (r.places.items ≡ []) × All (λ log. log.adds.items ≡ []) r.logs.items
