@@ -37,6 +37,7 @@ use Rattle.like_serial.proofs.Reports.{seen_counts}
 use Rattle.like_serial.proofs.Serial.{no_run, runs_are_serial}
 use Rattle.like_serial.proofs.Weigh.{only, sum-weigh, weigh, weigh-append, weigh-filter}
 use Rattle.like_crew.specs.declared.outcome.Outcome.{Outcome}
+use Rattle.like_crew.specs.Crew.{IsCrewOf}
 use Rattle.like_crew.specs.Outcome.{IsOutcome}
 use Rattle.like_crew.specs.Server.{IsLogOf}
 use Rattle.like_core.proofs.Lists.{sum-of-map}
@@ -92,7 +93,7 @@ fits-run workload did ran plain by_phase = record {
 fits-none : (workload : Workload) → FitsRunList workload [] []
 fits-none workload = record { plain = refl; by_phase = λ phase page. refl }
 
-module _ (setup : Setup) (plans : List (List Request)) (notes : Bool) (e : Outcome) (h : IsOutcome setup plans notes e)
+module _ (setup : Setup) (plans : List (List Request)) (notes : Bool) (e : Outcome) (h : IsOutcome (IsCrewOf setup plans notes) e)
     (masks : HaveMasks setup plans notes e h) (log : List LogEntry)
     (order : IsOrderOf (slice_index h.crew.coordinator.seat.opening.counts) h.crew.coordinator.seat.phase
     (posts setup plans notes e h) log) where
@@ -104,7 +105,7 @@ module _ (setup : Setup) (plans : List (List Request)) (notes : Bool) (e : Outco
   fits-log : (worker : ℕ) (l : WorkerLog) → slice_get e.logs.items worker ≡ Some l
       → FitsRunList (known setup plans notes e h) (earliest_first (steps_by worker steps)) l.ran.items
   fits-log worker l at =
-      let s = left-at IsLogOf h.crew.servers e.logs.items worker l h.left.logs at in
+      let s = left-at IsLogOf h.crew.servers e.logs.items worker l h.logs at in
       let is = server-at setup plans notes e h worker s.0 s.1.0 in
       let post : HasDone steps s.0.worker.post =
       (at-post setup plans notes e h (HasMade log) order.each worker s.0 s.1.0).done in
@@ -115,13 +116,13 @@ module _ (setup : Setup) (plans : List (List Request)) (notes : Bool) (e : Outco
 
   -- no seat is of a worker that is not there
   none-seated : (worker : ℕ) → length e.logs.items ≤ worker
-      → count_by (λ seat. (seat_view seat).worker == worker) h.left.seats ≡ 0
+      → count_by (λ seat. (seat_view seat).worker == worker) h.seats ≡ 0
   none-seated worker past =
-      count-none (λ (seat : WorkerSeat). (seat_view seat).worker == worker) h.left.seats
+      count-none (λ (seat : WorkerSeat). (seat_view seat).worker == worker) h.seats
       (λ k d within.
-      let own = seat-worker setup plans notes e h k (get_or h.left.seats k d)
-      (slice_get-get_or h.left.seats k d within) in
-      ne_eqb (seat_view (get_or h.left.seats k d)).worker worker
+      let own = seat-worker setup plans notes e h k (get_or h.seats k d)
+      (slice_get-get_or h.seats k d within) in
+      ne_eqb (seat_view (get_or h.seats k d)).worker worker
       (λ same. absurd
       (omega (arith, own, same, within, past, seats-size setup plans notes e h, logs-size setup plans notes e h))))
 
@@ -136,7 +137,7 @@ module _ (setup : Setup) (plans : List (List Request)) (notes : Bool) (e : Outco
     | inr past ↦
         subst (λ did. FitsRunList (known setup plans notes e h) (earliest_first did) (run_of (runs_of e.logs.items) worker))
         (sym (no_steps (slice_index h.crew.coordinator.seat.opening.counts) h.crew.coordinator.seat.phase (posts setup plans notes e h) log order worker
-        (sum-of-map (λ (p : WorkerSeatView). cond {A = ℕ} (p.worker == worker) 1 0) seat_view h.left.seats
+        (sum-of-map (λ (p : WorkerSeatView). cond {A = ℕ} (p.worker == worker) 1 0) seat_view h.seats
         ∙ none-seated worker past)))
         (subst (FitsRunList (known setup plans notes e h) [])
         (sym (no_run (runs_of e.logs.items) worker
@@ -147,7 +148,7 @@ module _ (setup : Setup) (plans : List (List Request)) (notes : Bool) (e : Outco
   -- each page's count at the start
   first-same : (λ page. get_or h.crew.coordinator.seat.opening.counts page 0) ≡ initial_count setup.pages
   first-same =
-      λ i page. (ap (λ (x : Opening). get_or x.counts page 0) h.is_crew.opening
+      λ i page. (ap (λ (x : Opening). get_or x.counts page 0) h.of.at.opening
       ∙ initial-at (known setup plans notes e h) page) i
 
   pub one-order : HasCounted setup plans notes e h → SawNoneLater setup plans notes e h

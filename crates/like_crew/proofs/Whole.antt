@@ -53,6 +53,7 @@ use Rattle.like_crew.proofs.LastLikes.{AreTables}
 use Rattle.like_crew.proofs.Once.{RunsOnce}
 use Rattle.like_promises.specs.Log.{IsLog}
 use Rattle.like_crew.specs.Server.{NoneAbove, IsLogOf, ServerView}
+use Rattle.like_crew.specs.Crew.{IsCrewOf}
 use Rattle.like_crew.specs.Outcome.{IsOutcome, IsSeatLike}
 use Rattle.like_crew.specs.Site.{opening_of}
 use Rattle.like_crew.specs.Servers.{IsServer}
@@ -97,7 +98,7 @@ initial-at workload page =
     by_page None = refl
     by_page (Some p) = refl
 
-module _ (setup : Setup) (plans : List (List Request)) (notes : Bool) (e : Outcome) (h : IsOutcome setup plans notes e) where
+module _ (setup : Setup) (plans : List (List Request)) (notes : Bool) (e : Outcome) (h : IsOutcome (IsCrewOf setup plans notes) e) where
   -- the masks of the phases that were released
   abbrev pub hot_known : ℕ → ℕ
   hot_known = mask_of h.crew.coordinator.seat.masks
@@ -111,10 +112,10 @@ module _ (setup : Setup) (plans : List (List Request)) (notes : Bool) (e : Outco
 
   -- the phase in which it ended is the last one that the coordinator's seat knows, and joined
   phase-is : e.phases ≡ h.crew.coordinator.seat.phase
-  phase-is = h.left.phases ∙ h.ended.phase
+  phase-is = h.phases ∙ h.ended.phase
 
   pub joined : IsJoined e.phases
-  joined = subst IsJoined (sym h.left.phases) h.ended.joined
+  joined = subst IsJoined (sym h.phases) h.ended.joined
 
   -- the run, with the hot pages that its entries tell
   abbrev pub served : Workload
@@ -122,31 +123,31 @@ module _ (setup : Setup) (plans : List (List Request)) (notes : Bool) (e : Outco
 
   -- the server of a worker
   pub server-at : (worker : ℕ) (s : ServerView) → slice_get h.crew.servers worker ≡ Some s
-      → IsServer (workload_of setup plans) setup.workers h.board notes worker s
+      → IsServer (workload_of setup plans) setup.workers h.of.board notes worker s
   server-at worker s at =
-      server-of (workload_of setup plans) setup.workers h.board notes h.crew.servers worker s at h.is_crew.servers
+      server-of (workload_of setup plans) setup.workers h.of.board notes h.crew.servers worker s at h.of.at.servers
 
   servers-size : length h.crew.servers ≡ setup.workers
-  servers-size = as-many (workload_of setup plans) setup.workers h.board notes h.crew.servers h.is_crew.servers
+  servers-size = as-many (workload_of setup plans) setup.workers h.of.board notes h.crew.servers h.of.at.servers
 
   pub logs-size : length e.logs.items ≡ setup.workers
-  logs-size = sym (pairs-length IsLogOf h.crew.servers e.logs.items h.left.logs) ∙ servers-size
+  logs-size = sym (pairs-length IsLogOf h.crew.servers e.logs.items h.logs) ∙ servers-size
 
-  pub seats-size : length h.left.seats ≡ setup.workers
-  seats-size = sym (pairs-length IsSeatLike h.crew.servers h.left.seats h.left.seats_are) ∙ servers-size
+  pub seats-size : length h.seats ≡ setup.workers
+  seats-size = sym (pairs-length IsSeatLike h.crew.servers h.seats h.seats_are) ∙ servers-size
 
   -- what the seats that were left know
   abbrev pub posts : List WorkerSeatView
-  posts = map seat_view h.left.seats
+  posts = map seat_view h.seats
 
   -- what is true of all of them is true of a server's
   pub at-post : (P : WorkerSeatView → Type 0) → All P posts → (worker : ℕ) (s : ServerView)
       → slice_get h.crew.servers worker ≡ Some s → P s.worker.post
   at-post P all worker s at =
-      let seat = right-at IsSeatLike h.crew.servers h.left.seats worker s h.left.seats_are at in
+      let seat = right-at IsSeatLike h.crew.servers h.seats worker s h.seats_are at in
       subst P seat.1.1
-      (subst (λ (x : WorkerSeat). P (seat_view x)) (get_or_from_slice_get h.left.seats worker seat.0 seat.0 seat.1.0)
-      (all-back seat_view P h.left.seats all worker seat.0 (slice_get_within h.left.seats worker seat.0 seat.1.0)))
+      (subst (λ (x : WorkerSeat). P (seat_view x)) (get_or_from_slice_get h.seats worker seat.0 seat.0 seat.1.0)
+      (all-back seat_view P h.seats all worker seat.0 (slice_get_within h.seats worker seat.0 seat.1.0)))
 
   -- the masks that the workers read are those
   abbrev pub HaveMasks : Type 0
@@ -169,12 +170,12 @@ module _ (setup : Setup) (plans : List (List Request)) (notes : Bool) (e : Outco
       (at-post (λ (p : WorkerSeatView). AreMasksOf hot_known p.masks) masks worker s at) of_log
 
   all-right : HaveMasks → AllZip (IsLogFor known) h.crew.servers e.logs.items
-  all-right masks = pairs-then IsLogOf (IsLogFor known) h.crew.servers e.logs.items (right masks) h.left.logs
+  all-right masks = pairs-then IsLogOf (IsLogFor known) h.crew.servers e.logs.items (right masks) h.logs
 
   pub log-at : HaveMasks → (worker : ℕ) (log : WorkerLog) → slice_get e.logs.items worker ≡ Some log
       → IsLog known setup.workers worker log
   log-at masks worker log at =
-      let s = left-at IsLogOf h.crew.servers e.logs.items worker log h.left.logs at in
+      let s = left-at IsLogOf h.crew.servers e.logs.items worker log h.logs at in
       subst (λ (x : Share). IsLog known x.workers x.worker log) (server-at worker s.0 s.1.0).share
       (right masks worker s.0 log s.1.0 s.1.1).is_log
 
@@ -182,12 +183,12 @@ module _ (setup : Setup) (plans : List (List Request)) (notes : Bool) (e : Outco
   pub none-noted : notes ≡ false → All (λ log. log.adds.items ≡ []) e.logs.items
   none-noted unasked = λ worker d within.
       let at = slice_get-get_or e.logs.items worker d within in
-      let s = left-at IsLogOf h.crew.servers e.logs.items worker (get_or e.logs.items worker d) h.left.logs at in
+      let s = left-at IsLogOf h.crew.servers e.logs.items worker (get_or e.logs.items worker d) h.logs at in
       s.1.1.unnoted ((server-at worker s.0 s.1.0).notes_are ∙ unasked)
 
   pub tables : AreTables known.users (submitters known) e.logs.items
   tables worker log at =
-      let s = left-at IsLogOf h.crew.servers e.logs.items worker log h.left.logs at in
+      let s = left-at IsLogOf h.crew.servers e.logs.items worker log h.logs at in
       let is = server-at worker s.0 s.1.0 in
       ap (λ (t : UserTable). t.share) s.1.1.last ∙ is.share ∙ ap (λ n. share_of known.users (submitters known) n worker) (sym logs-size)
 
@@ -200,21 +201,21 @@ module _ (setup : Setup) (plans : List (List Request)) (notes : Bool) (e : Outco
   -- the additions of all seats are the accepted likes of all logs
   pub all-likes : HaveMasks → (page : ℕ) → posts_added posts page ≡ likes known page (runs_of e.logs.items)
   all-likes masks page =
-      sum-of-map (λ (p : WorkerSeatView). additions_of p page) seat_view h.left.seats
+      sum-of-map (λ (p : WorkerSeatView). additions_of p page) seat_view h.seats
       ∙ sym (pairs-sum IsSeatLike (λ (s : ServerView). additions_of s.worker.post page)
-      (λ (seat : WorkerSeat). additions_of (seat_view seat) page) h.crew.servers h.left.seats
-      (λ s seat m. ap (λ (p : WorkerSeatView). additions_of p page) (sym m)) h.left.seats_are)
+      (λ (seat : WorkerSeat). additions_of (seat_view seat) page) h.crew.servers h.seats
+      (λ s seat m. ap (λ (p : WorkerSeatView). additions_of p page) (sym m)) h.seats_are)
       ∙ pairs-sum (IsLogFor known) (λ (s : ServerView). additions_of s.worker.post page)
       (λ (log : WorkerLog). likes_among known page log.ran.items) h.crew.servers e.logs.items
       (λ s log m. sym (m.likes page)) (all-right masks)
       ∙ sym (sum-of-map (likes_among known page) (λ (log : WorkerLog). log.ran.items) e.logs.items)
 
   -- the seats that were left
-  seat-at : (k : ℕ) (seat : WorkerSeat) → slice_get h.left.seats k ≡ Some seat
+  seat-at : (k : ℕ) (seat : WorkerSeat) → slice_get h.seats k ≡ Some seat
       → (s : ServerView) × ((slice_get h.crew.servers k ≡ Some s) × IsSeatLike s seat)
-  seat-at k seat at = left-at IsSeatLike h.crew.servers h.left.seats k seat h.left.seats_are at
+  seat-at k seat at = left-at IsSeatLike h.crew.servers h.seats k seat h.seats_are at
 
-  pub seat-worker : (k : ℕ) (seat : WorkerSeat) → slice_get h.left.seats k ≡ Some seat → (seat_view seat).worker ≡ k
+  pub seat-worker : (k : ℕ) (seat : WorkerSeat) → slice_get h.seats k ≡ Some seat → (seat_view seat).worker ≡ k
   seat-worker k seat at =
       let s = seat-at k seat at in
       ap (λ (p : WorkerSeatView). p.worker) s.1.1 ∙ (server-at k s.0 s.1.0).whose
@@ -223,14 +224,14 @@ module _ (setup : Setup) (plans : List (List Request)) (notes : Bool) (e : Outco
   pub counts-are : HaveMasks → (counts : List ℕ)
       → z.counts ≡ map (λ p. p.count) known.pages → length counts ≡ length known.pages
       → ((page : ℕ) → page < length known.pages
-      → get_or counts page 0 ≡ count_with h.crew.coordinator.seat h.left.seats page)
+      → get_or counts page 0 ≡ count_with h.crew.coordinator.seat h.seats page)
       → AreCounts served (runs_of e.logs.items) counts
   counts-are masks counts initial sized told =
       fill_by_all (λ page. initial_count known.pages page + likes served page (runs_of e.logs.items)) counts
       (length known.pages) 0 sized
       (λ page there.
       told page there
-      ∙ ap (λ (x : Opening). get_or x.counts page 0 + posts_added posts page) h.is_crew.opening
+      ∙ ap (λ (x : Opening). get_or x.counts page 0 + posts_added posts page) h.of.at.opening
       ∙ ap (λ cs. get_or cs page 0 + posts_added posts page) initial
       ∙ ap (λ n. n + posts_added posts page) (initial-at known page)
       ∙ ap (λ n. initial_count known.pages page + n) (all-likes masks page))
@@ -239,10 +240,10 @@ module _ (setup : Setup) (plans : List (List Request)) (notes : Bool) (e : Outco
   pub all-before : HaveMasks → (phase page : ℕ)
       → posts_before posts phase page ≡ likes_below known page (runs_of e.logs.items) phase
   all-before masks phase page =
-      sum-of-map (λ (p : WorkerSeatView). added_before phase page (additions_among p.did)) seat_view h.left.seats
+      sum-of-map (λ (p : WorkerSeatView). added_before phase page (additions_among p.did)) seat_view h.seats
       ∙ sym (pairs-sum IsSeatLike (λ (s : ServerView). added_before phase page (additions_among s.worker.post.did))
-      (λ (seat : WorkerSeat). added_before phase page (additions_among (seat_view seat).did)) h.crew.servers h.left.seats
-      (λ s seat m. ap (λ (p : WorkerSeatView). added_before phase page (additions_among p.did)) (sym m)) h.left.seats_are)
+      (λ (seat : WorkerSeat). added_before phase page (additions_among (seat_view seat).did)) h.crew.servers h.seats
+      (λ s seat m. ap (λ (p : WorkerSeatView). added_before phase page (additions_among p.did)) (sym m)) h.seats_are)
       ∙ pairs-sum (IsLogFor known) (λ (s : ServerView). added_before phase page (additions_among s.worker.post.did))
       (λ (log : WorkerLog). likes_among known page (filter (λ x. nat_lt x.phase phase) log.ran.items)) h.crew.servers
       e.logs.items
@@ -257,7 +258,7 @@ module _ (setup : Setup) (plans : List (List Request)) (notes : Bool) (e : Outco
   are-totals masks counted = λ k d within.
       let r : PageCount = get_or h.crew.coordinator.seat.counted k d in
       counted k d within
-      ∙ ap (λ (x : Opening). get_or x.counts r.page 0 + posts_before posts (r.phase + 1) r.page) h.is_crew.opening
+      ∙ ap (λ (x : Opening). get_or x.counts r.page 0 + posts_before posts (r.phase + 1) r.page) h.of.at.opening
       ∙ ap (λ n. get_or z.counts r.page 0 + n) (all-before masks (r.phase + 1) r.page)
 
   -- the hot pages that were chosen by these totals are those that the run lists tell
@@ -267,9 +268,9 @@ module _ (setup : Setup) (plans : List (List Request)) (notes : Bool) (e : Outco
       (total (workload_of setup plans) e.logs.items z.counts)) k ≡ served.hot k
   hot-is k =
       ap (λ (x : Opening). hot_by h.crew.coordinator.choice.hot (length x.counts)
-      (likes_counted x.counts (total (workload_of setup plans) e.logs.items z.counts)) k) h.is_crew.opening
+      (likes_counted x.counts (total (workload_of setup plans) e.logs.items z.counts)) k) h.of.at.opening
       ∙ ap (λ o. hot_by o (length z.counts)
-      (likes_counted z.counts (total (workload_of setup plans) e.logs.items z.counts)) k) h.is_crew.hot
+      (likes_counted z.counts (total (workload_of setup plans) e.logs.items z.counts)) k) h.of.at.hot
       ∙ ap (λ n. hot_by setup.hot n
       (likes_counted z.counts (total (workload_of setup plans) e.logs.items z.counts)) k)
       (length-map setup.pages (λ (p : Page). p.count))
@@ -278,13 +279,13 @@ module _ (setup : Setup) (plans : List (List Request)) (notes : Bool) (e : Outco
   -- the phases were released with the masks of these pages
   pub masks-known : HaveMasks → HasCounted → (k : ℕ) → k ≤ e.phases → hot_known k ≡ served.hot k
   masks-known masks counted k within =
-      (h.left.chose (total (workload_of setup plans) e.logs.items z.counts) (are-totals masks counted)).masks k
+      (h.chose (total (workload_of setup plans) e.logs.items z.counts) (are-totals masks counted)).masks k
       (omega (arith, within, phase-is)) ∙ hot-is k
 
   -- the choices are those phases that have any
   pub chosen-are : HaveMasks → HasCounted → e.chosen.items ≡ chosen_below served.hot e.phases
   chosen-are masks counted =
-      h.left.chosen ∙ (h.left.chose (total (workload_of setup plans) e.logs.items z.counts)
+      h.chosen ∙ (h.chose (total (workload_of setup plans) e.logs.items z.counts)
       (are-totals masks counted)).chosen
       ∙ ap (λ (f : ℕ → ℕ). chosen_below f (h.crew.coordinator.seat.phase + 1)) (λ i k. hot-is k i)
       ∙ ap (λ n. chosen_below served.hot (n + 1)) (sym phase-is)
@@ -296,7 +297,7 @@ module _ (setup : Setup) (plans : List (List Request)) (notes : Bool) (e : Outco
 
   pub logs-are : HaveMasks → HasCounted → SawNoneLater → AreLogs served setup.workers e.phases e.logs.items
   logs-are masks counted phases worker log at =
-      let s = left-at IsLogOf h.crew.servers e.logs.items worker log h.left.logs at in
+      let s = left-at IsLogOf h.crew.servers e.logs.items worker log h.logs at in
       let saw : IfSome s.0.worker.post.last (λ sight. sight.number ≤ e.phases) =
       subst (λ n. IfSome s.0.worker.post.last (λ sight. sight.number ≤ n)) (sym phase-is)
       (at-post (λ (p : WorkerSeatView). SawNoLater h.crew.coordinator.seat.phase p.last) phases worker s.0 s.1.0) in

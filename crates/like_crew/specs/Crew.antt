@@ -44,6 +44,11 @@ pub record IsCrew (setup : Setup) (plans : List (List Request)) (site : Site) (c
   pub board : c.coordinator.board ≡ board_id site.board
   pub crew : IsCrewAt setup plans (board_numbers (board_id site.board)) site.notes c
 
+-- the crew of a run of these plans, at some board
+pub record IsCrewOf (setup : Setup) (plans : List (List Request)) (notes : Bool) (c : CrewView) : Type 0 where
+  pub board : List ℕ
+  pub at : IsCrewAt setup plans board notes c
+
 -- a new crew of these settings and plans: its coordinator has made no turn, and its servers have done nothing
 pub record IsNewCrew (setup : Setup) (plans : List (List Request)) (c : CrewView) : Type 0 where
   pub board : BoardId

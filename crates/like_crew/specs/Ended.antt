@@ -7,11 +7,8 @@ use Rattle.like_board.specs.declared.worker_seat.WorkerSeat.{WorkerSeat}
 use Rattle.like_board.specs.Seats.{AreAll, BoardId, board_numbers, coord_board, coord_view, seat_board, seat_view}
 use Rattle.like_roles.specs.coordinator.CoordTurns.{ChoseByCounts, CoordinatorGoesOn, CoordinatorView, HasEndedJoined}
 use Rattle.like_promises.specs.declared.log.WorkerLog.{WorkerLog}
-use Rattle.like_requests.specs.declared.request.Request.{Request}
-use Rattle.like_requests.specs.declared.setup.Setup.{Setup}
 use Rattle.like_crew.specs.declared.ended.Ended.{Ended}
-use Rattle.like_crew.specs.declared.site.Site.{Site}
-use Rattle.like_crew.specs.Crew.{AreGone, CrewView, IsCrew}
+use Rattle.like_crew.specs.Crew.{AreGone, CrewView}
 use Rattle.like_crew.specs.Server.{IsLogOf, ServerGoesOn, ServerView}
 
 -- the seat that a server leaves: at its board, it knows what the server's post does
@@ -52,15 +49,11 @@ pub record IsCoordinatorOf (v : CoordinatorView) (e : Ended) : Type 0 where
   pub chosen : e.chosen.items ≡ v.choice.chosen
   pub chose : ChoseByCounts v
 
--- a crew went on from this one until its run had ended, and left this
-pub record HasEnded (c : CrewView) (e : Ended) : Type 0 where
-  pub left : HaveLeft c.servers e.logs.items e.seats.items
-  pub coordinator : CoordinatorView
-  pub later : CoordinatorGoesOn c.coordinator coordinator
-  pub coordinator_is : IsCoordinatorOf coordinator e
-
--- a crew of a run of these plans at this site went on until the run had ended, and left this
-pub record IsEnded (setup : Setup) (plans : List (List Request)) (site : Site) (e : Ended) : Type 0 where
+-- a crew of which this holds went on until its run had ended, and left this
+pub record IsEnded (Of : CrewView → Type 0) (e : Ended) : Type 0 where
   pub crew : CrewView
-  pub is_crew : IsCrew setup plans site crew
-  pub ended : HasEnded crew e
+  pub of : Of crew
+  pub left : HaveLeft crew.servers e.logs.items e.seats.items
+  pub coordinator : CoordinatorView
+  pub later : CoordinatorGoesOn crew.coordinator coordinator
+  pub coordinator_is : IsCoordinatorOf coordinator e

@@ -6,6 +6,7 @@ ghost use Rattle.like_promises.specs.Workload.{lists_of};
 ghost use Rattle.like_collection.specs.CollectFaults.{IsCollectFault};
 ghost use Rattle.like_promises.specs.Collected.{IsCollected, entries_in, rows_of};
 ghost use Rattle.like_promises.specs.Report.{IsReportOf};
+ghost use Rattle.like_crew.specs.Crew.{IsCrew, IsCrewOf};
 ghost use Rattle.like_crew.specs.Ended.{AreLeft, IsEnded};
 ghost use Rattle.like_crew.specs.Outcome.{IsOutcome};
 ghost use Rattle.like_crew.specs.Site.{IsSite};
@@ -36,7 +37,7 @@ pub fn report_of(
 ) -> Result<Report, AllocError>
     requires within { IsWithinLimits setup.now (lists_of plans.now.value.items) }
     requires sizes { terms.sizes.now ≡ map length (lists_of plans.now.value.items) }
-    requires outcome { IsOutcome setup.now (lists_of plans.now.value.items) terms.notes outcome }
+    requires outcome { IsOutcome (IsCrewOf setup.now (lists_of plans.now.value.items) terms.notes) outcome }
     ensures report { IfOk result (IsReportOf setup.now (lists_of plans.now.value.items) terms.entry.notes) }
     ensures phases { IfOk result (λ report. report.phases ≡ outcome.phases) }
     ensures logs { IfOk result (λ report. report.logs ≡ outcome.logs) }
@@ -58,7 +59,7 @@ pub fn report_in_parallel<T: Threads + Sync>(
 ) -> Result<Report, AllocError>
     requires within { IsWithinLimits setup.now (lists_of plans.now.value.items) }
     requires site { IsSite setup.now (lists_of plans.now.value.items) site }
-    requires ended { IsEnded setup.now (lists_of plans.now.value.items) site ended }
+    requires ended { IsEnded (IsCrew setup.now (lists_of plans.now.value.items) site) ended }
     ensures report { IfOk result (IsReportOf setup.now (lists_of plans.now.value.items) site.notes) }
     ensures phases { IfOk result (λ report. report.phases ≡ ended.phases) }
 {
@@ -88,7 +89,7 @@ fn report_with(
 ) -> Result<Report, AllocError>
     requires within { IsWithinLimits setup.now (lists_of plans.now.value.items) }
     requires sizes { terms.sizes.now ≡ map length (lists_of plans.now.value.items) }
-    requires outcome { IsOutcome setup.now (lists_of plans.now.value.items) terms.notes outcome }
+    requires outcome { IsOutcome (IsCrewOf setup.now (lists_of plans.now.value.items) terms.notes) outcome }
     requires collected { MatchResult collected
         (λ replies. IsCollected terms.sizes.now (entries_in outcome.logs.items) (rows_of replies))
         (IsCollectFault terms.sizes.now (entries_in outcome.logs.items)) }

@@ -4,10 +4,9 @@ use Rattle.std.specs.List.{AllZip}
 use Rattle.like_requests.specs.declared.script.Turned.{Turned}
 use Rattle.like_requests.specs.declared.script.Turned.TheVariants.{OpenOne, Worker, Coordinator}
 use Rattle.like_crew.specs.Crew.{CrewView, GoesOn}
-use Rattle.like_roles.specs.coordinator.CoordTurns.{HasEndedJoined}
 use Rattle.like_roles.specs.declared.coord_turn.CoordTurn.{CoordTurn}
 use Rattle.like_crew.specs.declared.outcome.Outcome.{Outcome}
-use Rattle.like_crew.specs.Outcome.{HasOutcome}
+use Rattle.like_crew.specs.Outcome.{IsOutcome}
 use Rattle.like_crew.specs.ServerTurns.{OpensAll}
 use Rattle.like_crew.specs.Steps.{AtServer, FreshRound, LeadsFresh, MakesFreshTurn, OpensMore}
 
@@ -61,10 +60,6 @@ pub record PlaysToEnd (script : List Turned) (c d : CrewView) : Type 0 where
   pub plays : Plays script c opened
   pub ends : EndsInTime opened d
 
--- a crew follows a script: it plays it to its end, where its coordinator finds the run ended, and leaves this
-pub record FollowsScript (script : List Turned) (c : CrewView) (o : Outcome) : Type 0 where
-  pub last : CrewView
-  pub plays : PlaysToEnd script c last
-  pub later : GoesOn c last
-  pub ended : HasEndedJoined last.coordinator
-  pub outcome : HasOutcome last o
+-- a crew follows a script: one that goes on from it, and plays it to its end, leaves this
+abbrev pub FollowsScript : List Turned → CrewView → Outcome → Type 0
+FollowsScript script c o = IsOutcome (λ last. GoesOn c last × PlaysToEnd script c last) o

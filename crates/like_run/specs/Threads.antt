@@ -2,7 +2,7 @@
 use Rattle.std.specs.Prelude.{◌≡◌, ◌+◌, ◌≤◌, ℕ, List, length, ⊤, false}
 use Rattle.like_crew.specs.Crew.{CrewView}
 use Rattle.like_crew.specs.declared.ended.Ended.{Ended}
-use Rattle.like_crew.specs.Ended.{HasEnded, HasLeft, IsSeatOf}
+use Rattle.like_crew.specs.Ended.{HasLeft, IsEnded, IsSeatOf}
 use Rattle.like_crew.specs.Server.{ServerView}
 use Rattle.like_promises.specs.declared.run_fault.RunFault.{RunFault}
 use Rattle.like_promises.specs.declared.run_fault.RunFault.TheVariants.{Settings, Memory, Start}
@@ -18,7 +18,7 @@ Keeps start first (Stopped token seat) = (token.of ≡ start) × (token.value �
 -- a crew went on until its run had ended, and left this; its servers and these submitters' ends were no more than the
 -- threads that could be started
 pub record HasEndedOn {E : Type 0} (starts : ℕ) (c : CrewView) (ends : List E) (e : Ended) : Type 0 where
-  pub ended : HasEnded c e
+  pub ended : IsEnded (λ crew. crew ≡ c) e
   pub enough : length c.servers + length ends ≤ starts
 
 -- no fault of the settings or the lists

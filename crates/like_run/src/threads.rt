@@ -1,7 +1,7 @@
 ghost use Rattle.std.specs.Prelude.{◌≡◌, ◌+◌, ◌-◌, ◌≤◌, ◌^◌, min, false, true, [], All, IfErr, IfOk, OnOk, length, map, vec_capacity};
 ghost use Rattle.like_requests.specs.Setup.{IsWithinLimits};
 ghost use Rattle.like_promises.specs.Workload.{lists_of};
-ghost use Rattle.like_crew.specs.Crew.{crew_of};
+ghost use Rattle.like_crew.specs.Crew.{IsCrew, crew_of};
 ghost use Rattle.like_crew.specs.Ended.{IsEnded};
 ghost use Rattle.like_crew.specs.Site.{AreSeats, IsSite};
 ghost use Rattle.like_promises.specs.Report.{IsReportOf};
@@ -136,7 +136,7 @@ fn run_at<R: Threads + Wait + Sync, G: Gate>(
     requires within { IsWithinLimits setup.now (lists_of plans.items) }
     requires site { IsSite setup.now (lists_of plans.items) site.now }
     requires seats { AreSeats setup.now site.now seats }
-    ensures ended { IfOk result (IsEnded setup.now (lists_of plans.items) site.now) }
+    ensures ended { IfOk result (IsEnded (IsCrew setup.now (lists_of plans.items) site.now)) }
     ensures enough { OnOk result (setup.now.workers + length plans.items ≤ starts) }
     ensures fault { IfErr result IsRunFaultUnderWay }
 {

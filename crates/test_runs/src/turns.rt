@@ -4,8 +4,8 @@ ghost use Rattle.like_requests.specs.Setup.{IsWithinLimits};
 ghost use Rattle.like_requests.specs.Script.{IsInRun};
 ghost use Rattle.like_roles.specs.coordinator.CoordTurns.{HasEndedJoined};
 ghost use Rattle.like_promises.specs.Workload.{lists_of};
-ghost use Rattle.like_crew.specs.Crew.{AreGone, CrewView, GoesOn};
-ghost use Rattle.like_crew.specs.Outcome.{HasOutcome};
+ghost use Rattle.like_crew.specs.Crew.{AreGone, GoesOn};
+ghost use Rattle.like_crew.specs.Outcome.{IsOutcome};
 ghost use Rattle.like_run.specs.Rounds.{CanMake};
 
 use super::asserts::{assert_counts, assert_same};
@@ -92,8 +92,7 @@ fn end_run(rt: &impl Abort, crew: &mut OwnCrew)
 fn play(rt: &impl Abort, alloc: Global, crew: OwnCrew, script: &[Turned]) -> (String, Outcome)
     requires script { All (CanMake crew.servers) script.now }
     requires all { length crew.servers ≡ crew.coordinator.seat.opening.workers }
-    ensures { (last : CrewView)
-        × (GoesOn crew last × HasEndedJoined last.coordinator × HasOutcome last result.1) }
+    ensures { IsOutcome (GoesOn crew) result.1 }
 {
     let mut crew = crew;
     let words = answers_of(rt, alloc, &mut crew, script);

@@ -33,6 +33,7 @@ use Rattle.like_promises.specs.RunStore.{count_at}
 use Rattle.like_promises.specs.Workload.{Workload, workload_of}
 use Rattle.like_crew.specs.declared.outcome.Outcome.{Outcome}
 use Rattle.like_promises.specs.EndToEnd.{runs_of}
+use Rattle.like_crew.specs.Crew.{IsCrewOf}
 use Rattle.like_crew.specs.Outcome.{IsOutcome, IsSeatLike}
 use Rattle.like_crew.specs.Server.{IsLogOf, ServerView}
 use Rattle.like_promises.specs.places.Tiling.{all_noted}
@@ -60,7 +61,7 @@ count-all test (log ∷ logs) =
 
 -- what a log has noted, where its worker notes its additions
 pub record HasNoted (setup : Setup) (plans : List (List Request)) (notes : Bool) (e : Outcome)
-    (h : IsOutcome setup plans notes e) (s : ServerView) (log : WorkerLog) : Type 0 where
+    (h : IsOutcome (IsCrewOf setup plans notes) e) (s : ServerView) (log : WorkerLog) : Type 0 where
   pub right_log : IsLogFor (known setup plans notes e h) s log
   pub additions : (additions_among s.worker.post.did) ≡ additions_noted log
   pub adds : AddsItsLikes (known setup plans notes e h) log.ran.items log.adds.items
@@ -89,7 +90,7 @@ stand-noted workload entries counts before last post initial below stand =
     let upto = below (s.phase + 1) s.page in
     (omega (arith, b.least), omega (arith, b.most))))
 
-module _ (setup : Setup) (plans : List (List Request)) (notes : Bool) (e : Outcome) (h : IsOutcome setup plans notes e)
+module _ (setup : Setup) (plans : List (List Request)) (notes : Bool) (e : Outcome) (h : IsOutcome (IsCrewOf setup plans notes) e)
     (masks : HaveMasks setup plans notes e h) (counted : HasCounted setup plans notes e h)
     (asked : notes ≡ true) where
   -- the log of each worker has
@@ -110,7 +111,7 @@ module _ (setup : Setup) (plans : List (List Request)) (notes : Bool) (e : Outco
   noted-at : (worker : ℕ) (log : WorkerLog) → slice_get e.logs.items worker ≡ Some log
       → (s : ServerView) × ((slice_get h.crew.servers worker ≡ Some s) × HasNoted setup plans notes e h s log)
   noted-at worker log at =
-      let s = left-at IsLogOf h.crew.servers e.logs.items worker log h.left.logs at in
+      let s = left-at IsLogOf h.crew.servers e.logs.items worker log h.logs at in
       (s.0, (s.1.0, noted-by worker s.0 log s.1.0 s.1.1))
 
   -- of its accepted likes
@@ -138,33 +139,33 @@ module _ (setup : Setup) (plans : List (List Request)) (notes : Bool) (e : Outco
   passing-same : (test : Addition → Bool)
       → posts_passing (posts setup plans notes e h) test ≡ count_by test (all_noted e.logs.items)
   passing-same test =
-      sum-of-map (λ (p : WorkerSeatView). count_by test (additions_among p.did)) seat_view h.left.seats
+      sum-of-map (λ (p : WorkerSeatView). count_by test (additions_among p.did)) seat_view h.seats
       ∙ sym (pairs-sum IsSeatLike (λ (s : ServerView). count_by test (additions_among s.worker.post.did))
-      (λ (seat : WorkerSeat). count_by test (additions_among (seat_view seat).did)) h.crew.servers h.left.seats
-      (λ s seat m. ap (λ (p : WorkerSeatView). count_by test (additions_among p.did)) (sym m)) h.left.seats_are)
+      (λ (seat : WorkerSeat). count_by test (additions_among (seat_view seat).did)) h.crew.servers h.seats
+      (λ s seat m. ap (λ (p : WorkerSeatView). count_by test (additions_among p.did)) (sym m)) h.seats_are)
       ∙ pairs-sum (λ (s : ServerView) (log : WorkerLog). (additions_among s.worker.post.did) ≡ additions_noted log)
       (λ (s : ServerView). count_by test (additions_among s.worker.post.did))
       (λ (log : WorkerLog). count_by test (additions_noted log)) h.crew.servers e.logs.items
       (λ s log m. ap (count_by test) m)
       (pairs-then IsLogOf (λ (s : ServerView) (log : WorkerLog). (additions_among s.worker.post.did) ≡ additions_noted log)
-      h.crew.servers e.logs.items (λ i s log at of_log. (noted-by i s log at of_log).additions) h.left.logs)
+      h.crew.servers e.logs.items (λ i s log at of_log. (noted-by i s log at of_log).additions) h.logs)
       ∙ count-all test e.logs.items
 
   -- each page's count at the start
   first-same : (page : ℕ) → get_or h.crew.coordinator.seat.opening.counts page 0 ≡ initial_count setup.pages page
   first-same page =
-      ap (λ (x : Opening). get_or x.counts page 0) h.is_crew.opening ∙ initial-at (known setup plans notes e h) page
+      ap (λ (x : Opening). get_or x.counts page 0) h.of.at.opening ∙ initial-at (known setup plans notes e h) page
 
   module _ (there : All (AreThere setup.pages) plans) (counts : List ℕ) (sized : length counts ≡ length setup.pages)
       (told : (page : ℕ) → page < length setup.pages
-      → get_or counts page 0 ≡ count_with h.crew.coordinator.seat h.left.seats page) where
+      → get_or counts page 0 ≡ count_with h.crew.coordinator.seat h.seats page) where
     -- and its last one
-    last-same : (page : ℕ) → count_with h.crew.coordinator.seat h.left.seats page ≡ get_or counts page 0
+    last-same : (page : ℕ) → count_with h.crew.coordinator.seat h.seats page ≡ get_or counts page 0
     last-same page = elim (cases_lt page (length setup.pages)) [
       | inl within ↦ sym (told page within)
       | inr past ↦
           let none = get_or_past counts page 0 (omega arith) in
-          let start = ap (λ (x : Opening). get_or x.counts page 0) h.is_crew.opening
+          let start = ap (λ (x : Opening). get_or x.counts page 0) h.of.at.opening
           ∙ get_or_past (z setup plans notes e h).counts page 0
           (omega (arith, length-map setup.pages (λ (p : Page). p.count))) in
           let added = all-likes setup plans notes e h masks page
@@ -180,12 +181,12 @@ module _ (setup : Setup) (plans : List (List Request)) (notes : Bool) (e : Outco
     tiles-are places page n =
         let first : (λ page. get_or h.crew.coordinator.seat.opening.counts page 0) ≡ initial_count setup.pages =
         λ i page. first-same page i in
-        let last : count_with h.crew.coordinator.seat h.left.seats ≡ (λ page. get_or counts page 0) =
+        let last : count_with h.crew.coordinator.seat h.seats ≡ (λ page. get_or counts page 0) =
         λ i page. last-same page i in
         sym (passing-same (covers page n))
         ∙ (subst (λ (f : ℕ → ℕ). AreTiles (initial_count setup.pages) f
         (posts_passing (posts setup plans notes e h))) last
-        (subst (λ (f : ℕ → ℕ). AreTiles f (count_with h.crew.coordinator.seat h.left.seats)
+        (subst (λ (f : ℕ → ℕ). AreTiles f (count_with h.crew.coordinator.seat h.seats)
         (posts_passing (posts setup plans notes e h))) first places.tiles)).tiled page n
 
   -- the calls of each worker are placed

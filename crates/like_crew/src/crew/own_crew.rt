@@ -7,7 +7,7 @@ ghost use Rattle.like_roles.specs.coordinator.CoordTurns.{HasEndedJoined};
 ghost use Rattle.like_roles.specs.declared.coord_turn.CoordTurn.{CoordTurn as Answer};
 ghost use Rattle.like_roles.specs.declared.coord_turn.CoordTurn.TheVariants.{Ended};
 ghost use Rattle.like_crew.specs.Crew.{AreGone, GoesOn, HasInbox, IsCrewAt, IsNewCrew};
-ghost use Rattle.like_crew.specs.Outcome.{HasOutcome};
+ghost use Rattle.like_crew.specs.Outcome.{IsOutcome};
 ghost use Rattle.like_crew.specs.Server.{ServerView};
 ghost use Rattle.like_crew.specs.ServerTurns.{OpensAll, OpensOne, rank_at};
 ghost use Rattle.like_crew.specs.Steps.{AtServer, FreshRound, IsFreshTurn, LeadsFresh, MakesFreshTurn, OpensMore};
@@ -140,7 +140,8 @@ impl OwnCrew {
     pub fn finish(self, alloc: Global) -> Result<Outcome, AllocError>
         requires gone { AreGone self.servers }
         requires all { length self.servers ≡ self.coordinator.seat.opening.workers }
-        ensures { IfOk result (HasOutcome self) }
+        requires ended { HasEndedJoined self.coordinator }
+        ensures { IfOk result (IsOutcome (λ crew. crew ≡ self)) }
     {
         let OwnCrew {
             board,

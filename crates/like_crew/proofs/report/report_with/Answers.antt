@@ -29,7 +29,7 @@ replies_of-requires c =
     e.logs.items c.args.terms.sizes.now c.requires.sizes
     (logs-size c.args.setup.now plans c.args.terms.notes e c.requires.outcome)
     c.requires.within.0.0
-    (log-at c.args.setup.now plans c.args.terms.notes e c.requires.outcome c.requires.outcome.left.counts.closed.masks))
+    (log-at c.args.setup.now plans c.args.terms.notes e c.requires.outcome c.requires.outcome.counts.closed.masks))
     c.requires.collected
 
 -- the number of submitters
@@ -80,7 +80,7 @@ places_of-requires-clause-few c =
 pub places_of-requires-clause-there : goal.places_of-requires-clause-there
 places_of-requires-clause-there c notes =
     let plans : List (List Request) = lists_of c.args.plans.now.value.items in
-    let closed = c.requires.outcome.left.counts.closed in
+    let closed = c.requires.outcome.counts.closed in
     let there = all-there c.args.setup.now plans c.args.terms.notes c.args.outcome c.requires.outcome closed.masks
     closed.counted notes (plans-there c.args.setup.now plans c.requires.within) in
     subst (λ (n : ℕ). All (λ (log : WorkerLog). All (λ (a : Added). a.page < n) log.adds.items) c.deref-2.result.now)
@@ -98,9 +98,9 @@ returns-clause-report c =
     let size : length e.logs.items ≡ workers = logs-size c.args.setup.now plans c.args.terms.notes e h in
     let sizes = c.args.terms.sizes.now in
     let many = submitters-are (length sizes) sizes (lists_of c.args.plans.now.value.items) refl c.requires.sizes in
-    let told = h.left.counts in
+    let told = h.counts in
     let pages : length e.counts.items ≡ length c.args.setup.now.pages =
-    told.len ∙ ap (λ (z : Opening). length z.counts) h.is_crew.opening
+    told.len ∙ ap (λ (z : Opening). length z.counts) h.of.at.opening
     ∙ length-map c.args.setup.now.pages (λ (p : Page). p.count) in
     let logs = logs-are c.args.setup.now plans c.args.terms.notes e h told.closed.masks told.closed.counted
     told.closed.phases in

@@ -10,12 +10,14 @@ use Rattle.like_limits.specs.Limits.{max_requests}
 use Rattle.like_promises.specs.Workload.{lists_of, workload_of}
 use Rattle.like_promises.specs.declared.chosen.Chosen.{Chosen}
 use Rattle.like_promises.specs.declared.log.WorkerLog.{WorkerLog}
+use Rattle.like_crew.specs.Crew.{GoesOn, IsCrewOf}
 use Rattle.like_crew.specs.Outcome.{IsOutcome}
 use Rattle.like_crew.specs.Server.{IsLogOf}
 use Rattle.like_crew.proofs.Asked.{requests_of}
-use Rattle.like_crew.proofs.Closing.{crew-outcome}
+use Rattle.like_crew.proofs.Closing.{crew-outcome, outcome-as}
 use Rattle.like_crew.proofs.Ending.{as-many}
 use Rattle.like_crew.proofs.Makings.{all-small, map-twice}
+use Rattle.like_run.specs.Script.{PlaysToEnd}
 use Rattle.like_run.proofs.Entries.{can-make}
 use Rattle.like_run.proofs.Long.{under-way}
 use Rattle.like_run.proofs.Reported.{is-report}
@@ -61,11 +63,13 @@ report_of-requires-clause-sizes c =
 
 pub report_of-requires-clause-outcome : goal.report_of-requires-clause-outcome
 report_of-requires-clause-outcome c =
-    let followed = c.in_ok-outcome.ensures.script in
-    subst (λ (v : Vec (Vec Request Global) Global). IsOutcome c.args.setup.now (lists_of v.items) c.args.notes
-    c.in_ok-outcome.outcome) (sym c.of-lists.ensures)
-    (crew-outcome c.args.setup.now (lists_of c.args.plans.items) c.args.notes c.in_ok-crew.crew followed.last
-    c.in_ok-outcome.outcome c.in_ok-crew.ensures.crew followed.later followed.ended followed.outcome)
+    let crew = c.in_ok-crew.crew in
+    let outcome = c.in_ok-outcome.outcome in
+    subst (λ (v : Vec (Vec Request Global) Global). IsOutcome (IsCrewOf c.args.setup.now (lists_of v.items) c.args.notes)
+    outcome) (sym c.of-lists.ensures)
+    (crew-outcome c.args.setup.now (lists_of c.args.plans.items) c.args.notes crew outcome c.in_ok-crew.ensures.crew
+    (outcome-as (λ last. GoesOn crew last × PlaysToEnd c.args.script.now crew last) (GoesOn crew) outcome
+    (λ last followed. followed.0) c.in_ok-outcome.ensures.script))
 
 pub returns-clause-report : goal.returns-clause-report
 returns-clause-report c =
@@ -80,12 +84,12 @@ returns-clause-follows c =
     record {
       start = c.in_ok-crew.crew;
       new = c.in_ok-crew.ensures.new;
-      last = followed.last;
-      plays = followed.plays;
-      logs = subst (λ (logs : Vec WorkerLog Global). AllZip IsLogOf followed.last.servers logs.items)
-          (sym c.in_ok-report_of.ensures.logs) followed.outcome.logs;
-      phase_is = c.in_ok-report_of.ensures.phases ∙ followed.outcome.phases;
-      hot = ap (λ (chosen : Vec Chosen Global). chosen.items) c.in_ok-report_of.ensures.hot ∙ followed.outcome.chosen;
+      last = followed.crew;
+      plays = followed.of.1;
+      logs = subst (λ (logs : Vec WorkerLog Global). AllZip IsLogOf followed.crew.servers logs.items)
+          (sym c.in_ok-report_of.ensures.logs) followed.logs;
+      phase_is = c.in_ok-report_of.ensures.phases ∙ followed.phases;
+      hot = ap (λ (chosen : Vec Chosen Global). chosen.items) c.in_ok-report_of.ensures.hot ∙ followed.chosen;
     }
 
 pub returns-in_err-outcome-clause-fault : goal.returns-in_err-outcome-clause-fault

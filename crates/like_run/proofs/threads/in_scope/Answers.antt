@@ -1,6 +1,7 @@
-use Rattle.std.proofs.Common.{◌≡◌, ◌≤◌, ◌∙◌, ℕ, Vec, Global, length, subst, sym, arith}
+use Rattle.std.proofs.Common.{◌≡◌, ◌≤◌, ◌∙◌, ℕ, Vec, Global, length, subst, sym, refl, arith}
 use Rattle.like_board.specs.declared.worker_seat.WorkerSeat.{WorkerSeat}
 use Rattle.like_promises.specs.declared.log.WorkerLog.{WorkerLog}
+use Rattle.like_crew.specs.Crew.{crew_of}
 use Rattle.like_crew.specs.Ended.{HaveLeft}
 use Rattle.like_run.proofs.Started.{threads-fit}
 use Rattle.like_run.proofs.threads.in_scope.Goals as goal
@@ -52,6 +53,8 @@ returns-clause-ended g c =
     (c.start_all-all.ensures.servers c.in-Some.ensures.all) c.join_all.ensures in
     record {
       ended = record {
+        crew = crew_of c.args.crew;
+        of = refl;
         left = subst (λ (logs : Vec WorkerLog Global). HaveLeft servers logs.items c.new-2.result.seats.items)
             (sym c.new-2.ensures.logs)
             (subst (λ (seats : Vec WorkerSeat Global). HaveLeft servers c.join_all.new.logs.items seats.items)

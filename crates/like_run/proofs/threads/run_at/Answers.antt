@@ -36,10 +36,17 @@ ended-at : (setup : Setup) (plans : List (List Request)) (site : Site) (starts :
     (ends : List Sender) (r : Result Ended RunFault)
     → IsCrew setup plans site crew
     → IfOk r (HasEndedOn starts crew ends)
-    → IfOk r (IsEnded setup plans site)
+    → IfOk r (IsEnded (IsCrew setup plans site))
 ended-at setup plans site starts crew ends r is h =
-    IfOk-weaker r (HasEndedOn starts crew ends) (IsEnded setup plans site)
-    (λ e on. record { crew = crew; is_crew = is; ended = on.ended }) h
+    IfOk-weaker r (HasEndedOn starts crew ends) (IsEnded (IsCrew setup plans site))
+    (λ e on. record {
+      crew = on.ended.crew;
+      of = subst (IsCrew setup plans site) (sym on.ended.of) is;
+      left = on.ended.left;
+      coordinator = on.ended.coordinator;
+      later = on.ended.later;
+      coordinator_is = on.ended.coordinator_is;
+    }) h
 
 -- and enough threads could be started
 enough-started : (setup : Setup) (plans : List (List Request)) (site : Site) (starts : ℕ) (crew : CrewView)

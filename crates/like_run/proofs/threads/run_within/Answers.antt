@@ -2,6 +2,7 @@ use Rattle.std.proofs.Common.{List, Vec, Global, sym, ap, subst}
 use Rattle.like_requests.specs.Setup.{IsWithinLimits}
 use Rattle.like_requests.specs.declared.request.Request.{Request}
 use Rattle.like_promises.specs.Workload.{lists_of}
+use Rattle.like_crew.specs.Crew.{IsCrew}
 use Rattle.like_crew.specs.Ended.{IsEnded}
 use Rattle.like_crew.specs.Site.{IsSite}
 use Rattle.like_run.proofs.Reported.{is-report}
@@ -21,8 +22,8 @@ report_in_parallel-requires-clause-site g c κs lives =
 
 pub report_in_parallel-requires-clause-ended : goal.report_in_parallel-requires-clause-ended
 report_in_parallel-requires-clause-ended g c κs lives =
-    subst (λ (v : Vec (Vec Request Global) Global). IsEnded c.args.setup.now
-    (lists_of v.items) c.in_ok-site.site c.in_ok-ended.ended) (sym c.of-lists.ensures) c.in_ok-ended.ensures.ended
+    subst (λ (v : Vec (Vec Request Global) Global). IsEnded (IsCrew c.args.setup.now
+    (lists_of v.items) c.in_ok-site.site) c.in_ok-ended.ended) (sym c.of-lists.ensures) c.in_ok-ended.ensures.ended
 
 pub report_in_parallel-requires-clause-within : goal.report_in_parallel-requires-clause-within
 report_in_parallel-requires-clause-within g c κs lives =

@@ -7,7 +7,7 @@ use Rattle.like_requests.specs.declared.request.Request.{Request}
 use Rattle.like_requests.specs.Script.{IsInRun}
 use Rattle.like_core.specs.declared.opening.Opening.{Opening}
 use Rattle.like_promises.specs.Workload.{lists_of, workload_of}
-use Rattle.like_crew.specs.Crew.{IsCrewAt}
+use Rattle.like_crew.specs.Crew.{IsCrewAt, IsCrewOf}
 use Rattle.like_crew.specs.Outcome.{IsOutcome}
 use Rattle.like_crew.proofs.Asked.{requests_of}
 use Rattle.like_crew.proofs.Closing.{crew-outcome}
@@ -62,10 +62,9 @@ report_of-requires-clause-sizes g c =
 
 pub report_of-requires-clause-outcome : goal.report_of-requires-clause-outcome
 report_of-requires-clause-outcome g c =
-    let told = c.play-words.ensures in
     let crew = subst (λ r. IfOk r (IsCrewAt c.args.setup.now (lists_of c.args.plans.items) [] true))
     c.expect-crew.ensures c.new.ensures.crew in
-    subst (λ (v : Vec (Vec Request Global) Global). IsOutcome c.args.setup.now (lists_of v.items) true
+    subst (λ (v : Vec (Vec Request Global) Global). IsOutcome (IsCrewOf c.args.setup.now (lists_of v.items) true)
     c.play-words.result.1) (sym c.of-lists.ensures)
-    (crew-outcome c.args.setup.now (lists_of c.args.plans.items) true c.expect-crew.result told.0
-    c.play-words.result.1 crew told.1.0 told.1.1 told.1.2)
+    (crew-outcome c.args.setup.now (lists_of c.args.plans.items) true c.expect-crew.result
+    c.play-words.result.1 crew c.play-words.ensures)

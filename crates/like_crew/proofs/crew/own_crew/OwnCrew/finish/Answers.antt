@@ -7,9 +7,11 @@ use Rattle.like_board.specs.Own.{own_views}
 use Rattle.like_board.specs.OwnClosed.{all_views, as_shared}
 use Rattle.like_board.specs.Seats.{AreAll}
 use Rattle.like_board.specs.declared.worker_seat.WorkerSeat.{WorkerSeat}
+use Rattle.like_roles.specs.coordinator.CoordTurns.{HasEndedJoined}
 use Rattle.like_crew.specs.Crew.{AreGone, CrewView}
 use Rattle.like_crew.specs.declared.outcome.Outcome.{Outcome}
-use Rattle.like_crew.specs.Outcome.{HasOutcome}
+use Rattle.like_crew.specs.Outcome.{IsOutcome}
+use Rattle.like_crew.specs.OwnCrew.{servers_of}
 use Rattle.like_crew.specs.OwnServer.{OwnServerView}
 use Rattle.like_crew.proofs.servers.OwnFinishing.{own-all, own-gone, own-like, views-left}
 use Rattle.like_crew.proofs.crew.own_crew.OwnCrew.finish.Goals as goal
@@ -46,9 +48,6 @@ close-requires-clause-places c =
     ap (λ (xs : List ℕ). length xs) c.deref_mut.ensures.value ∙ c.self.invariant.1
     ∙ ap (λ (v : CoordSeatView). length v.opening.counts) (sym c.finish-coord.ensures.view)
 
-outcome-of-view : (u v : CrewView) (o : Outcome) → u ≡ v → HasOutcome u o → HasOutcome v o
-outcome-of-view u v o same h = subst (λ x. HasOutcome x o) same h
-
 closed-as : (v w : CoordSeatView) (seats : List WorkerSeat) (counts items : List ℕ)
     → v ≡ w
     → counts ≡ items
@@ -69,7 +68,10 @@ returns c =
     let many : length c.close.new.counts ≡ c.self.inside.counts.len =
     c.close.ensures.len ∙ ap (λ (v : CoordSeatView). length v.opening.counts) c.finish-coord.ensures.view
     ∙ sym (c.self.inside.counts.ok.0 ∙ c.self.invariant.1) in
-    outcome-of-view _ _ outcome c.self.view_is (record {
+    record {
+      crew = record { coordinator = c.self.inside.coordinator; servers = servers_of c.self.inside.servers.items };
+      of = c.self.view_is;
+      ended = subst (λ (v : CrewView). HasEndedJoined v.coordinator) (sym c.self.view_is) c.requires.ended;
       logs = c.in_ok-logs.ensures.logs;
       seats = map as_shared c.in_ok-logs.seats.items;
       seats_are = own-like c.self.inside.servers.items c.in_ok-logs.seats.items c.in_ok-logs.ensures.seats;
@@ -78,4 +80,4 @@ returns c =
       phases = c.phase-phases.ensures;
       chosen = c.finish-coord.ensures.chosen;
       chose = c.self.invariant.2.chose;
-    })
+    }
