@@ -10,7 +10,6 @@ use Rattle.like_board.specs.declared.worker_seat.WorkerSeat.{WorkerSeat}
 use Rattle.like_roles.specs.coordinator.CoordTurns.{HasEndedJoined}
 use Rattle.like_crew.specs.Crew.{AreGone, CrewView}
 use Rattle.like_crew.specs.declared.outcome.Outcome.{Outcome}
-use Rattle.like_crew.specs.Outcome.{IsOutcome}
 use Rattle.like_crew.specs.OwnCrew.{servers_of}
 use Rattle.like_crew.specs.OwnServer.{OwnServerView}
 use Rattle.like_crew.proofs.servers.OwnFinishing.{own-all, own-gone, own-like, views-left}
