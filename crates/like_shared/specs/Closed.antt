@@ -45,9 +45,9 @@ pub record IsClosedShared (s : SharedService) (k : ServiceKeeper) (counts : List
   pub strict : (o : Opening) → AreOpened o (first_driver s) (first_seats s)
       → IsStrictlyShared o (driver_end leads) leads.seats_lead.ends counts
 
--- why it isn't closed: a client is out, and service and keeper come back as they were; or a seat isn't gone, and the
--- service comes back, shared no more
+-- why it isn't closed: a client is out, and service and keeper come back as they were; or all are back and a seat isn't
+-- gone, and the service comes back, shared no more
 abbrev pub IsNotClosed : SharedService → ServiceKeeper → NotClosed → Type 0
 IsNotClosed s k (ClientOut service keeper) = (service ≡ s) × (keeper ≡ k) × ¬ AreBack k
 IsNotClosed s k (SeatNotGone service) =
-    LeadsTo s k service.driver service.seats.items × ¬ AreGone service.seats.items
+    AreBack k × LeadsTo s k service.driver service.seats.items × ¬ AreGone service.seats.items

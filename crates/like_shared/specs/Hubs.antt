@@ -25,13 +25,13 @@ abbrev pub done_for : {A : Type 0} → Result A NoClient → List DeskDeed
 done_for (Err Busy) = []
 done_for result = Made ∷ []
 
--- the keeper to which all led that was done at the hub's desk: it has the logs of the clients that were parked there,
--- and no others
+-- a keeper to which some deeds at the hub's desk lead. That these are all that its cards told is not said: cards may be
+-- out
 pub record IsLastKeeper (h : Hub) (k : ServiceKeeper) : Type 0 where
   pub done : List DeskDeed
   pub run : HasRun DeskDoes (first_of h.desk) done k
 
--- a hub is closed: its service is, with the logs of the clients that were parked
+-- a hub is closed: its service is, with the logs of the clients that such deeds parked
 pub record IsClosedHub (h : Hub) (counts : List ℕ) : Type 0 where
   pub keeper : ServiceKeeper
   pub last : IsLastKeeper h keeper

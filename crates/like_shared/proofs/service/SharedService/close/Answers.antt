@@ -39,6 +39,7 @@ returns-clause-not c =
     let service = c.in-Err.field-0.service in
     let is = c.in-Err.ensures.back in
     let seats-are = ap (λ x. x.seats.items) is in (
+      c.if-not-are_back.ensures,
       subst (λ d. LeadsTo s k d service.seats.items) (sym (ap (λ x. x.driver) is))
           (subst (LeadsTo s k driver) (sym seats-are)
           (leads-to c.calls_keep_seats.ensures s k driver back c.requires.keeper.whole c.close-driver.ensures
