@@ -16,8 +16,9 @@
  * that are found there are answered at its next row, or once it unlocks the seat.
  *
  * A call whose seat is between two phases tries again for 50 microseconds, and then sleeps. A look that waits to be
- * found sleeps at once. A thread's first call of a service takes some memory for it: it answers LIKES_NO_MEMORY, or NULL,
- * 0 or false where it gives no status, if there is none.
+ * found sleeps at once. A thread's first call of a service takes some memory for it, and so does its first look, or one
+ * while others of the thread were late and aren't found yet: it answers LIKES_NO_MEMORY, or NULL, 0 or false where it
+ * gives no status, if there is none.
  */
 #ifndef LIKES_SERVICE_H
 #define LIKES_SERVICE_H
@@ -200,10 +201,10 @@ uint32_t likes_service_propose(likes_service *service, const uint32_t *pages, si
  * likes_service_fault isn't LIKES_OK. Any thread may call it. It waits as likes_service_propose does. */
 size_t likes_service_split_pages(likes_service *service, uint32_t *pages, size_t pages_len);
 
-/* Takes a seat's lock. Until likes_service_unlock, the seat is this thread's, which may make any call of likes_seat_* on
- * it: in another thread they answer LIKES_NOT_LOCKED. NULL, and nothing is done, where likes_service_seat_fault isn't
- * LIKES_OK: a thread holds one seat of a service at a time. It unlocks the seat before it ends, or no phase changes any
- * more. */
+/* Takes a seat's lock, once no other thread holds it. Until likes_service_unlock, the seat is this thread's, which may
+ * make any call of likes_seat_* on it: in another thread they answer LIKES_NOT_LOCKED. NULL, and nothing is done, where
+ * likes_service_seat_fault isn't LIKES_OK: a thread holds one seat of a service at a time. It unlocks the seat before it
+ * ends, or no phase changes any more. */
 likes_seat *likes_service_lock(likes_service *service, uint32_t number);
 
 /* Gives the lock back. The thread that took it does so, before it waits for anything. Of a seat that it doesn't hold it

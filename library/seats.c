@@ -15,6 +15,8 @@ static inline bool is_locked(const likes_seat *seat) {
 /* A seat that the thread has locked. NULL: it hasn't. A call of it counts, as others do. */
 static inline inner_seat *begin(const likes_seat *seat, inner_member **member) {
     inner_seat *mine = (inner_seat *)((uintptr_t)seat->at - 1);
+    if (!mine->service->is_open)
+        return NULL;
     *member = inner_member_of(mine->service);
     if (*member == NULL || (*member)->locked != mine)
         return NULL;

@@ -493,6 +493,7 @@ static void nulls(void) {
     IS(totals[0], 10);
     IS(totals[1], 21);
     null_pointers(service);
+    IS(likes_seat_like(seat, 0, 0), LIKES_NOT_LOCKED);
     IS(likes_service_close(service), LIKES_OK);
     service = NULL;
 }

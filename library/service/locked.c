@@ -28,6 +28,7 @@ likes_seat *likes_service_lock(likes_service *service, uint32_t number) {
         return NULL;
     inner_note_use(service);
     inner_seat *seat = &service->seat[number];
+    pthread_mutex_lock(&seat->held);
     uint64_t until = seat->waiting > 0 ? inner_clock() + WAY : 0;
     while (seat->waiting > 0 && !inner_is_over(until))
         sched_yield();
@@ -46,6 +47,7 @@ void likes_service_unlock(likes_service *service, uint32_t number) {
     inner_mine.locked--;
     member->locked = NULL;
     inner_unlock(member, &service->seat[number]);
+    pthread_mutex_unlock(&service->seat[number].held);
 }
 
 /* A look of the host's. No more of them wait, or are found and not taken, than the seat has room for. What isn't split, a

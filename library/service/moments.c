@@ -76,8 +76,10 @@ static uint32_t go_to_moment(inner_member *member, uint64_t *counts, size_t page
         uint32_t turn = turn_to_moment(member);
         if (turn == LIKES_GOES_ON)
             return status;
+        /* Who gives back a seat that has left has no phase work there, and so wishes for no turn. */
+        uint64_t until = seen != NULL || turn == LIKES_ENDED ? inner_clock() + NAP : INNER_NEVER;
         if (turn == LIKES_NOT_ALL_IN || (turn == LIKES_ENDED && !end_for_all(member)))
-            inner_await_wish(member->service, seen != NULL ? inner_clock() + NAP : INNER_NEVER);
+            inner_await_wish(member->service, until);
     }
 }
 

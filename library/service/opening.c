@@ -32,6 +32,7 @@ static likes_service *made(const likes_shared *shared, const likes_options *opti
         seat->service = service;
         seat->handle.at = (void *)((uintptr_t)seat + 1);
         seat->found = found + (size_t)i * room;
+        pthread_mutex_init(&seat->held, NULL);
     }
     pthread_mutex_init(&service->turning, NULL);
     return service;
@@ -42,6 +43,8 @@ static void end(likes_service *service) {
     service->is_open = false;
     inner_members_close(service);
     free(service->seat[0].found);
+    for (uint32_t i = 0; i < service->seats; i++)
+        pthread_mutex_destroy(&service->seat[i].held);
     pthread_mutex_destroy(&service->turning);
 }
 

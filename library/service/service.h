@@ -56,6 +56,7 @@ typedef struct inner_seat {
     /* Of who has the seat locked: how many looks of the host's were asked and not taken, and a ring of found ones. */
     uint32_t hosts, first, length;
     likes_found *found;
+    pthread_mutex_t held; /* by that thread, also while others may call the seat */
 } inner_seat;
 
 /* A look of the service that waits. Its tag is its address, with the bit of such tags. */

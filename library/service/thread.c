@@ -41,12 +41,11 @@ static uint64_t pulse(likes_service *service, bool is_resting, uint64_t beat) {
     return now + service->period;
 }
 
-/* Whoever calls the thread after it has read `call` keeps it from its sleep. */
+/* Whoever calls the thread after it has read `call` keeps it from its sleep: so it reads that before `is_stopping`. */
 void *inner_driver(void *at) {
     likes_service *service = (likes_service *)at;
     uint64_t beat = inner_clock() + service->period;
-    while (!service->is_stopping) {
-        uint32_t call = service->call;
+    for (uint32_t call = service->call; !service->is_stopping; call = service->call) {
         uint64_t until = INNER_NEVER;
         service->is_resting = false;
         inner_turns(service->own);

@@ -306,6 +306,16 @@ static void take_counts(void) {
     end_call();
 }
 
+/* The same, where others hold the seats for half a period. */
+static void take_counts_of_held(void) {
+    uint64_t counts[PAGES];
+    begin(1);
+    begin_call("counts", 2 * PERIOD);
+    if (likes_service_counts(explored, counts, PAGES) != LIKES_COUNTED)
+        fail("there are no counts");
+    end_call();
+}
+
 static void take_snapshot(uint64_t most) {
     uint64_t counts[PAGES];
     uint32_t lasts[USERS];
@@ -387,6 +397,28 @@ static void row(void) {
     end_call();
 }
 
+/* A row at a seat that is held, which sleeps until the phase ends. */
+static void row_0_between(void) {
+    likes_request request = {.user = 0, .page = 1};
+    likes_answer told;
+    begin(USERS);
+    likes_service_lock(explored, 0);
+    nap(PERIOD + PERIOD / 20);
+    likes_service_run(explored, 0, &request, 1, &told);
+    likes_service_unlock(explored, 0);
+}
+
+/* The same seat meanwhile, which nobody else holds once this thread does. */
+static void hold_0_alone(void) {
+    const inner_member *member = begin(USERS);
+    nap(PERIOD + PERIOD / 15);
+    likes_service_lock(explored, 0);
+    for (const inner_member *other = member->next; other != NULL; other = other->next)
+        if (other->locked == &explored->seat[0])
+            fail("two threads hold one seat");
+    likes_service_unlock(explored, 0);
+}
+
 /* Likes of a held seat, through a change of phases. The thread takes no found looks. */
 static void row_of_likes(void) {
     likes_request requests[2] = {{.user = 1, .page = 1}, {.user = 1, .page = 1}};
@@ -448,6 +480,22 @@ static void hold_past_due(void) {
     likes_service_lock(explored, 1);
     nap(PERIOD + PERIOD / 10);
     likes_service_unlock(explored, 1);
+}
+
+/* Seats that have left, each held for half a period. */
+static void hold_gone(uint32_t number) {
+    begin(number);
+    likes_service_lock(explored, number);
+    nap(PERIOD / 2);
+    likes_service_unlock(explored, number);
+}
+
+static void hold_gone_0(void) {
+    hold_gone(0);
+}
+
+static void hold_gone_1(void) {
+    hold_gone(1);
 }
 
 static void hold_soon(void) {
@@ -520,12 +568,11 @@ static void writer_beside_likes(void) {
 }
 
 static void stop(void) {
-    uint64_t counts[PAGES];
-    begin(1);
+    begin(USERS);
+    nap(US);
     begin_call("stop", 0);
     likes_service_retire(explored);
     end_call();
-    (void)counts;
 }
 
 const explore_case explore_cases[] = {
@@ -557,6 +604,7 @@ const explore_case explore_cases[] = {
     {"long", roomy, {look_long, like_1}, 2, false, NULL},
     {"last-split", last_split, {look_long, like_1}, 2, false, NULL},
     {"last-row", last_early, {look_1, row_of_likes}, 2, false, NULL},
+    {"held-two", last_split, {hold_past_due, row_0_between, hold_0_alone}, 0, false, NULL},
     {"last-held", last_split, {hold_past_due, like_0_between}, 1, false, NULL},
     {"due", due, {tick, like_1}, 2, false, NULL},
     {"due-held", due, {hold_past_due, like_0_later}, 1, false, NULL},
@@ -585,6 +633,8 @@ const explore_case explore_cases[] = {
     {"back", gone, {bring_back_0, bring_back_1}, 2, false, NULL},
     {"back-half", half_gone, {bring_back_0, like_1}, 2, false, NULL},
     {"gone-counts", gone, {take_counts, bring_back_0}, 1, false, NULL},
+    {"gone-held", gone, {take_counts_of_held, hold_gone_0, hold_gone_1}, 1, true, NULL},
     {"stop", split, {stop}, 2, false, NULL},
+    {"stop-quiet", quiet, {stop}, 2, false, NULL},
     {NULL, NULL, {NULL}, 0, false, NULL},
 };
