@@ -85,6 +85,9 @@ class Pool:
 
     def __del__(self) -> None:
         if hasattr(self, "_flushing"):
+            # Its thread ends them, or its service, where that ends first.
+            for writer in self._lanes:
+                writer._kept.is_dropped = True
             self._flushing.end()
 
     def __enter__(self) -> "Pool":

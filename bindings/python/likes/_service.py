@@ -373,7 +373,7 @@ class Kept:
     def __init__(self, writers: Set["Kept"]) -> None:
         self.library, self.at, self.lock = load(), c_void_p(), threading.RLock()
         self.ends: List[int] = []  # what the last close has answered
-        self._is_dropped, self._process = False, os.getpid()
+        self.is_dropped, self._process = False, os.getpid()
         self._writers = writers  # those of the service that may be open
         writers.add(self)
 
@@ -392,7 +392,7 @@ class Kept:
 
     def drop(self) -> None:
         """Nobody has its Writer any more: it is flushed, or the end of the service tries again."""
-        self._is_dropped = True
+        self.is_dropped = True
         # In the child of a fork, and at the end of the program, other threads may never give back what it waits for.
         if self.is_open() and self._process == os.getpid() and not sys.is_finalizing():
             try:
@@ -402,7 +402,7 @@ class Kept:
 
     def end_dropped(self) -> None:
         """Ends it at the end of its service, if nobody has its Writer any more. Likes that nobody counts are told."""
-        if not self._is_dropped:
+        if not self.is_dropped:
             return
         try:
             self.close()
@@ -410,9 +410,12 @@ class Kept:
             if why.status == Status.HOLDS_SEAT:
                 raise
             with self.lock:
-                lost = self.library.likes_writer_drop(self.at)
+                # The thread of its pool may have closed it by now.
+                lost = self.library.likes_writer_drop(self.at) if self.is_open() else 0
             self.close()
-            warnings.warn(f"{lost} likes of a writer that wasn't closed are lost: {why}", RuntimeWarning, stacklevel=3)
+            if lost > 0:
+                told = f"{lost} likes of a writer that wasn't closed are lost: {why}"
+                warnings.warn(told, RuntimeWarning, stacklevel=3)
 
 
 class Writer:

@@ -350,16 +350,19 @@ class Service(unittest.TestCase):
         self.assertEqual(service.stop().counts, [7, 0])
 
     def test_dropped_pools(self) -> None:
-        """A pool that nobody has any more keeps no service open."""
-        service = opened(period=0.0002)
-        service.pool().like(4, 1)
-        while True:
-            try:
-                self.assertEqual(service.stop().counts, [5, 1])
-                break
-            except Refused as why:
-                self.assertEqual(why.status, Status.OPEN_WRITER)
+        """A pool that nobody has any more keeps no service open, also where it was dropped just now."""
+        for _ in range(20):
+            with opened(period=100) as service:
+                service.pool().like(4, 1)
+            self.assertEqual(service.stop().counts, [5, 1])
+
+    def test_ends_of_dropped_pools(self) -> None:
+        """A pool's thread closes its writers soon."""
+        with opened(period=100) as service:
+            service.pool().like(4, 1)
+            while service._writers:
                 time.sleep(0.001)
+            self.assertEqual(service.counts(), [5, 1])
 
     def test_looks_of_a_writer(self) -> None:
         """A look through a writer shows each like of its page that the writer was told, by whichever user."""
@@ -405,13 +408,34 @@ class Service(unittest.TestCase):
         self.assertEqual(service.stop().counts, [7, 3])
 
     def test_lost_likes(self) -> None:
-        """What a dropped writer keeps for a seat that has left for good is told."""
+        """What a dropped writer or pool keeps for a seat that has left for good is told."""
+        openings: List[Callable[[Likes], Any]] = [Likes.writer, Likes.pool]
+        for opening in openings:
+            service = opened()
+            service.retire_seat(0)
+            opening(service).like(4, 0)
+            gc.collect()
+            with self.assertWarnsRegex(RuntimeWarning, "^1 likes of a writer"):
+                self.assertEqual(service.stop().counts, [5, 0])
+
+    def test_closing_twice(self) -> None:
+        """A dropped writer that another thread closes while the service ends, since its seat is back, loses nothing."""
         service = opened()
         service.retire_seat(0)
         service.writer().like(4, 0)
-        gc.collect()
-        with self.assertWarnsRegex(RuntimeWarning, "^1 likes of a writer"):
-            self.assertEqual(service.stop().counts, [5, 0])
+        (kept,) = service._writers
+        close = kept.close
+
+        def refused() -> None:
+            try:
+                close()
+            finally:
+                service.bring_back_seat(0)
+                close()
+
+        dropping = mock.patch.object(kept.library, "likes_writer_drop", return_value=0)
+        with mock.patch.object(kept, "close", refused), dropping as drop:
+            self.assertEqual((service.stop().counts, drop.called), ([6, 0], False))
 
     def test_errors_in_blocks(self) -> None:
         """An error in a block is the one that comes out, also where the end of the block is refused."""
