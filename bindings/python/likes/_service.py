@@ -73,8 +73,6 @@ class Calls:
 
     def shut(self) -> None:
         """Keeps new calls out, and waits for those that have begun."""
-        if self.own()._is_owned():
-            raise RuntimeError("this thread is in a call of the service")
         self._is_shut = True
         for lock in [it() for it in list(self._locks)]:
             if lock is not None:
@@ -325,14 +323,16 @@ class Likes:
         """Ends the service, and gives its last moment, each time the same. It waits for calls that have begun, and
         later ones raise Closed. Where a writer is open it raises Refused, with OPEN_WRITER, and nothing is done. A
         signal handler in the middle of a call can't end the service: RuntimeError."""
+        # Before it waits for anything, which could wait for that call.
+        refuse_again(self._calls.own(), "is in a call of the service")
         refuse_again(self._ending, "ends the service, or opens a writer")
         with self._ending:
             if self._end is None:
+                # Asked before anything is done: a refusal disturbs no call, and loses no likes.
+                if any(kept.is_open() and not kept.is_dropped for kept in list(self._writers)):
+                    raise Refused(Status.OPEN_WRITER)
                 for kept in list(self._writers):
                     kept.end_dropped()
-                # Asked before calls are kept out: a refusal disturbs none of them.
-                if any(kept.is_open() for kept in list(self._writers)):
-                    raise Refused(Status.OPEN_WRITER)
                 self._calls.shut()
                 self._end, self._arrays = self._last_moment(), None
             return self._end
@@ -407,8 +407,6 @@ class Kept:
         try:
             self.close()
         except Refused as why:
-            if why.status == Status.HOLDS_SEAT:
-                raise
             with self.lock:
                 # The thread of its pool may have closed it by now.
                 lost = self.library.likes_writer_drop(self.at) if self.is_open() else 0

@@ -418,6 +418,16 @@ class Service(unittest.TestCase):
             with self.assertWarnsRegex(RuntimeWarning, "^1 likes of a writer"):
                 self.assertEqual(service.stop().counts, [5, 0])
 
+    def test_kept_likes(self) -> None:
+        """A refused end loses no likes of dropped writers."""
+        with opened() as service:
+            with service.writer():
+                service.retire_seat(0)
+                service.writer().like(4, 0)
+                self.refused(Status.OPEN_WRITER, service.stop)
+                service.bring_back_seat(0)
+        self.assertEqual(service.stop().counts, [6, 0])
+
     def test_closing_twice(self) -> None:
         """A dropped writer that another thread closes while the service ends, since its seat is back, loses nothing."""
         service = opened()
@@ -567,6 +577,21 @@ class Breaks(unittest.TestCase):
                 while True:
                     service.run(0, [(LOOK, 4, 0)])
             self.assertEqual(service.look(4, 1), Seen(1, 1))
+
+    def test_handlers_with_seats(self) -> None:
+        """One in the middle of a call touches no dropped writer: it could wait for a thread that waits for its seat."""
+        with opened() as service:
+            service.retire_seat(1)
+            service.writer().like(1, 0)
+
+            def handle(*_: object) -> bool:
+                self.assertRaises(RuntimeError, service.close)
+                return False
+
+            with mock.patch.object(service._library, "likes_service_take_found", handle):
+                service.run(0, [(LIKE, 4, 0)])
+            service.bring_back_seat(1)
+        self.assertEqual(service.stop().counts, [7, 0])
 
     def test_handlers_of_writers(self) -> None:
         """A handler in the middle of a call of a writer makes others, but doesn't end the writer."""
