@@ -8,7 +8,7 @@ from contextlib import suppress
 from types import TracebackType
 from typing import TYPE_CHECKING, List, Optional, Type
 
-from ._errors import Closed, Refused
+from ._errors import Closed, Refused, refuse_again
 from ._rows import Seen
 from ._statuses import Status
 
@@ -133,11 +133,18 @@ class Pool:
 
     def close(self) -> None:
         """Flushes and ends the pool. Where likes stay kept it raises what flush does, and stays open. It may be called
-        again."""
-        try:
-            flush(self._lanes)
-        except Closed:
-            pass
+        again. A signal handler in the middle of a call of the pool can't end it: RuntimeError."""
         for writer in self._lanes:
-            writer.close()
+            refuse_again(writer._lock, "is in a call of the pool")
+        self._close_with(self._lanes)
         self._flushing.end()
+
+    def _close_with(self, lanes: "List[Writer]") -> None:
+        """Closes all writers or none, with the locks of these, so that no like comes in between."""
+        if lanes:
+            with lanes[0]._lock:
+                self._close_with(lanes[1:])
+            return
+        flush([writer for writer in self._lanes if writer._kept.is_open()])
+        for writer in self._lanes:
+            writer._kept.end()

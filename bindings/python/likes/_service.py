@@ -14,7 +14,7 @@ from ctypes import byref, c_uint32, c_uint64, c_void_p
 from types import TracebackType
 from typing import Any, List, NamedTuple, Optional, Sequence, Set, Type
 
-from ._errors import Closed, Refused, check, check_file, lock_fault
+from ._errors import Closed, Refused, check, check_file, lock_fault, refuse_again
 from ._library import MOST, Answer, FoundLook, Opening, last_of, load, microseconds, path_of, row_of, whole
 from ._library import Statistics as StatisticsOfC
 from ._pool import LEAST, Pool
@@ -361,12 +361,6 @@ class Likes:
         self.stop()
 
 
-def refuse_again(lock: Any, what: str) -> None:
-    """Refuses a signal handler a call that would wait for the one in whose middle it is."""
-    if lock._is_owned():
-        raise RuntimeError(f"this thread {what}")
-
-
 class Kept:
     """A writer as C has it. Its service knows it until it is closed, also if nobody has its Writer any more."""
 
@@ -383,6 +377,10 @@ class Kept:
     def close(self) -> None:
         """Flushes the writer and ends it, or raises why likes stay kept."""
         refuse_again(self.lock, "is in a call of the writer")
+        self.end()
+
+    def end(self) -> None:
+        """The same, for a thread that may have its lock."""
         with self.lock:
             if OK not in self.ends:
                 # Made and noted in one step of C: no exception gets in between, so nothing is freed twice.

@@ -15,7 +15,7 @@ import warnings
 from typing import Any, Callable, Dict, List, Tuple
 from unittest import mock
 
-from likes import GLANCE, LIKE, LIKED, LOOK, NO_HOT, Closed, Likes, Moment, Refused, Seen, Status, Told, _service
+from likes import GLANCE, LIKE, LIKED, LOOK, NO_HOT, Closed, Likes, Moment, Refused, Seen, Status, Told, _pool, _service
 
 from .numbers import OUTSIDE, WRONG
 
@@ -348,6 +348,31 @@ class Service(unittest.TestCase):
             pool.like(1, 0)
             self.assertEqual(pool.drop(), 1)
         self.assertEqual(service.stop().counts, [7, 0])
+
+    def test_likes_while_a_pool_closes(self) -> None:
+        """A pool is closed as a whole, or stays open. A like of another thread comes before, or raises Closed."""
+        told: List[str] = []
+        with opened(users=4, period=100) as service:
+            pool = service.pool()
+            service.retire_seat(1)
+
+            def like() -> None:
+                try:
+                    pool.like(1, 0)
+                except Closed:
+                    told.append("closed")
+
+            thread, flush = threading.Thread(target=like), _pool.flush
+
+            def flushed(lanes: List[Any]) -> None:
+                flush(lanes)
+                thread.start()
+                thread.join(0.1)
+
+            with mock.patch.object(_pool, "flush", flushed):
+                pool.close()
+            thread.join()
+        self.assertEqual((told, service.stop().counts), (["closed"], [5, 0]))
 
     def test_dropped_pools(self) -> None:
         """A pool that nobody has any more keeps no service open, also where it was dropped just now."""
