@@ -49,6 +49,7 @@ type Service struct {
 	gate         gate
 	looks        chan struct{}
 	late         atomic.Uint64 // looks that were late before they reached C, which doesn't count them
+	ended        atomic.Pointer[Statistics]
 	writers      atomic.Int64
 	ending       sync.Mutex
 }
@@ -295,18 +296,27 @@ func (s *Service) Save(path string) error {
 	})
 }
 
-// Statistics gives what the service has done so far.
-func (s *Service) Statistics() (Statistics, error) {
-	var told C.likes_statistics
-	err := s.call(0, func() error { return wanted(C.likes_service_statistics(s.c, &told), OK) })
-	if err != nil {
-		return Statistics{}, err
+// Statistics gives what the service has done so far, also once Stop has returned.
+func (s *Service) Statistics() (told Statistics, err error) {
+	err = s.call(0, func() error {
+		told = s.statistics()
+		return nil
+	})
+	if ended := s.ended.Load(); ended != nil {
+		return *ended, nil
 	}
+	return told, err
+}
+
+// statistics are those of C, and the looks that didn't reach it.
+func (s *Service) statistics() Statistics {
+	var told C.likes_statistics
+	C.likes_service_statistics(s.c, &told)
 	return Statistics{
 		Phases: uint64(told.phases), Likes: uint64(told.likes), Looks: uint64(told.looks),
 		Waits: uint64(told.waits), Late: uint64(told.late) + s.late.Load(),
 		WaitTime: time.Duration(told.wait_time), LongestWait: time.Duration(told.longest_wait),
-	}, nil
+	}
 }
 
 // Propose proposes pages to be split, as Driver.Propose does.
@@ -367,7 +377,7 @@ func (s *Service) Tick() {
 }
 
 // Stop ends the service, and gives its last moment. It waits for calls that have begun; later ones are ErrClosed, as is
-// a second Stop. ErrOpenWriter: a writer or a pool is open, and nothing is done.
+// a second Stop. Then Statistics gives the last ones. ErrOpenWriter: a writer or a pool is open, and nothing is done.
 func (s *Service) Stop() (*Moment, error) {
 	if err := s.call(0, s.mayEnd); err != nil {
 		return nil, err
@@ -393,6 +403,8 @@ func (s *Service) Stop() (*Moment, error) {
 	end := &Moment{make([]uint64, s.pages), make([]uint32, s.users)}
 	C.likes_service_lasts(s.c, pagesAt(end.Lasts), C.size_t(s.users))
 	C.likes_service_stop(s.c, countsAt(end.Counts), C.size_t(s.pages))
+	told := s.statistics()
+	s.ended.Store(&told)
 	C.likes_service_close(s.c)
 	s.c = nil
 	return end, nil

@@ -260,7 +260,14 @@ func TestDeadline(t *testing.T) {
 	if _, err := service.LookWithin(0, 0, time.Millisecond); !errors.Is(err, ErrLate) {
 		t.Error(err)
 	}
-	if told, err := service.Statistics(); err != nil || told.Late != 3 {
+	before, err := service.Statistics()
+	if err != nil || before.Late != 3 {
+		t.Error(before, err)
+	}
+	if err := service.Close(); err != nil {
+		t.Error(err)
+	}
+	if told, err := service.Statistics(); err != nil || told.Late != 3 || told.Likes != before.Likes {
 		t.Error(told, err)
 	}
 }
@@ -611,7 +618,7 @@ func TestAfterClose(t *testing.T) {
 	for i, err := range []error{
 		writer.Like(0, 0), writer.Flush(), drop(writer.Look(0, 0)), service.Like(0, 0), drop(service.Look(0, 0)),
 		drop(service.LookWithin(0, 0, 1)), drop(service.Glance(0, 0)), drop(service.Last(0)), drop(service.Lasts()),
-		drop(service.Counts()), drop(service.Snapshot()), drop(service.Statistics()), drop(service.SplitPages()),
+		drop(service.Counts()), drop(service.Snapshot()), drop(service.SplitPages()),
 		service.Propose(0), service.RetireSeat(0), service.BringBackSeat(0), drop(service.NewWriter()),
 		drop(service.NewPool()), drop(service.Stop()), service.WithSeat(0, func(*Held) error { return nil }),
 	} {

@@ -133,8 +133,8 @@ class Likes:
         self._library, self._at, self._end = load(), c_void_p(), None  # type: Any, Any, Optional[Moment]
         self._calls, self._ending, self._runs = Calls(), threading.RLock(), itertools.count()
         self._writers: Set[Kept] = set()
-        # The arrays of the last moment, and what the calls of the end have answered.
-        self._arrays, self._ends = None, []  # type: Any, List[int]
+        # The arrays of the last moment, the last statistics, and what the calls of the end have answered.
+        self._arrays, self._ended, self._ends = None, StatisticsOfC(), []  # type: Any, StatisticsOfC, List[int]
 
     def _begin(self, period: Optional[float]) -> None:
         """Once it is opened."""
@@ -284,9 +284,13 @@ class Likes:
         check_file(self._call(self._library.likes_service_save, path_of(path)), path)
 
     def statistics(self) -> Statistics:
-        """What the service has done so far."""
+        """What the service has done so far, also once it has ended."""
         told = StatisticsOfC()
-        check(self._call(self._library.likes_service_statistics, byref(told)), Status.OK)
+        try:
+            check(self._call(self._library.likes_service_statistics, byref(told)), Status.OK)
+        except Closed:
+            self.stop()  # it has begun: this waits for it
+            told = self._ended
         numbers = (told.phases, told.likes, told.looks, told.waits, told.late)
         return Statistics(*numbers, told.wait_time / 1e9, told.longest_wait / 1e9)
 
@@ -321,8 +325,8 @@ class Likes:
 
     def stop(self) -> Moment:
         """Ends the service, and gives its last moment, each time the same. It waits for calls that have begun, and
-        later ones raise Closed. Where a writer is open it raises Refused, with OPEN_WRITER, and nothing is done. A
-        signal handler in the middle of a call can't end the service: RuntimeError."""
+        later ones but `statistics` raise Closed. Where a writer is open it raises Refused, with OPEN_WRITER, and
+        nothing is done. A signal handler in the middle of a call can't end the service: RuntimeError."""
         # Before it waits for anything, which could wait for that call.
         refuse_again(self._calls.own(), "is in a call of the service")
         refuse_again(self._ending, "ends the service, or opens a writer")
@@ -348,6 +352,7 @@ class Likes:
             (library.likes_service_retire, (at,)),
             (library.likes_service_lasts, (at, lasts, self._users)),
             (library.likes_service_stop, (at, counts, self._pages)),
+            (library.likes_service_statistics, (at, byref(self._ended))),
             (library.likes_service_close, (at,)),
         ]
         for call, words in steps[len(self._ends) :]:

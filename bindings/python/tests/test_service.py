@@ -187,7 +187,7 @@ class Service(unittest.TestCase):
         for row in ([(LIKE, 4, 0)], []):
             self.assertRaises(Closed, service.run, 0, row)
         calls: List[Callable[[], object]]
-        calls = [service.lasts, service.split_pages, service.counts, service.snapshot, service.statistics]
+        calls = [service.lasts, service.split_pages, service.counts, service.snapshot]
         for call in [*calls, service.phase, service.writer, service.tick, writer.flush]:
             self.assertRaises(Closed, call)
         for single in (service.last, service.retire_seat, service.bring_back_seat):
@@ -196,6 +196,25 @@ class Service(unittest.TestCase):
             self.assertRaises(Closed, service.propose, pages)
         self.assertRaises(Closed, service.look_within, 4, 0, 1)
         self.assertEqual(writer.drop(), 0)
+
+    def test_statistics_after_the_end(self) -> None:
+        """What was done until then, also while another thread ends the service."""
+        service, told = opened(), []  # type: Likes, List[int]
+        service.like(4, 1)
+        service.look(4, 1)
+        self.assertEqual(service.statistics()[1:3], (1, 1))
+        thread = threading.Thread(target=lambda: told.append(service.statistics().likes))
+        moment = service._last_moment
+
+        def last_moment() -> Moment:
+            thread.start()
+            thread.join(0.1)
+            return moment()
+
+        with mock.patch.object(service, "_last_moment", last_moment):
+            service.close()
+        thread.join()
+        self.assertEqual((told, service.statistics()[1:3]), ([1], (1, 1)))
 
     def test_files(self) -> None:
         """A service that goes on from a file, also with more users and pages."""
