@@ -7,6 +7,7 @@ import (
 	"path/filepath"
 	"reflect"
 	"sync"
+	"sync/atomic"
 	"testing"
 	"time"
 )
@@ -596,6 +597,42 @@ func TestClosing(t *testing.T) {
 		if end.Counts[0] != sum {
 			t.Errorf("%d likes of %d", end.Counts[0], sum)
 		}
+	}
+}
+
+// A Stop that is refused keeps no call out, also where a writer is opened meanwhile.
+func TestRefusedStop(t *testing.T) {
+	for times := 0; times < 50; times++ {
+		service := start(t, Options{Seats: 2, Users: 2, Period: short}, 0)
+		var begun, all sync.WaitGroup
+		var isClosed atomic.Bool
+		again := func(call func() error) {
+			defer all.Done()
+			err := call()
+			begun.Done()
+			for err == nil {
+				err = call()
+			}
+			isClosed.Store(true)
+		}
+		begun.Add(2)
+		all.Add(2)
+		go again(func() error { return service.Like(0, 0) })
+		go again(func() error {
+			writer, err := service.NewWriter()
+			if err != nil {
+				return err
+			}
+			time.Sleep(short)
+			return writer.Close()
+		})
+		begun.Wait()
+		for _, err := service.Stop(); err != nil; _, err = service.Stop() {
+			if isClosed.Load() {
+				t.Error("a call was refused by an end that gave", err)
+			}
+		}
+		all.Wait()
 	}
 }
 
