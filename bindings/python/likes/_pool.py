@@ -8,7 +8,7 @@ from contextlib import suppress
 from types import TracebackType
 from typing import TYPE_CHECKING, List, Optional, Type
 
-from ._errors import Closed, Refused, refuse_again
+from ._errors import Closed, Refused, check, refuse_again
 from ._rows import Seen
 from ._statuses import Status
 
@@ -58,15 +58,10 @@ class Flushing:
 
 
 def flush(lanes: "List[Writer]") -> None:
-    """Flushes all, and raises what was raised first."""
-    first: Optional[Exception] = None
-    for writer in lanes:
-        try:
-            writer.flush()
-        except (Refused, Closed) as why:
-            first = first or why
-    if first is not None:
-        raise first
+    """Flushes all, and raises why the first one that is refused is."""
+    # Not an exception kept until all are flushed: that would keep its frames, and so the pool.
+    for told in [writer._call(writer._library.likes_writer_flush) for writer in lanes]:
+        check(told, Status.OK)
 
 
 class Pool:

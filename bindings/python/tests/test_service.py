@@ -12,6 +12,7 @@ import threading
 import time
 import unittest
 import warnings
+from contextlib import suppress
 from typing import Any, Callable, Dict, List, Tuple
 from unittest import mock
 
@@ -399,6 +400,20 @@ class Service(unittest.TestCase):
             with opened(period=100) as service:
                 service.pool().like(4, 1)
             self.assertEqual(service.stop().counts, [5, 1])
+
+    def test_dropped_pools_after_errors(self) -> None:
+        """Nor does one that was refused a flush, before the garbage collector comes."""
+        gc.disable()
+        self.addCleanup(gc.enable)
+        with opened() as service:
+            service.retire_seat(1)
+            pool = service.pool()
+            pool.like(1, 0)
+            with suppress(Refused):
+                pool.flush()
+            del pool
+            service.bring_back_seat(1)
+        self.assertEqual(service.stop().counts, [6, 0])
 
     def test_ends_of_dropped_pools(self) -> None:
         """A pool's thread closes its writers soon."""
