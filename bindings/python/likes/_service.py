@@ -72,8 +72,11 @@ class Calls:
             raise Closed
 
     def shut(self) -> None:
-        """Keeps new calls out, and waits for those that have begun."""
+        """Keeps new calls out."""
         self._is_shut = True
+
+    def wait(self) -> None:
+        """Waits for those that had begun when it was shut."""
         for lock in [it() for it in list(self._locks)]:
             if lock is not None:
                 with lock:
@@ -132,7 +135,7 @@ class Likes:
         """What it has before it is opened."""
         self._library, self._at, self._end = load(), c_void_p(), None  # type: Any, Any, Optional[Moment]
         self._calls, self._ending, self._runs = Calls(), threading.RLock(), itertools.count()
-        self._writers: Set[Kept] = set()
+        self._opening, self._writers = threading.RLock(), set()  # type: Any, Set[Kept]
         # The arrays of the last moment, the last statistics, and what the calls of the end have answered.
         self._arrays, self._ended, self._ends = None, StatisticsOfC(), []  # type: Any, StatisticsOfC, List[int]
 
@@ -204,9 +207,9 @@ class Likes:
         """Opens a writer, for a thread's likes. It is closed before the service."""
         writer = Writer(Kept(self._writers))
         try:
-            refuse_again(self._ending, "ends the service, or opens a writer")
-            # Not while the service ends: that has seen which writers are open.
-            with self._ending:
+            refuse_again(self._opening, "ends the service, or opens a writer")
+            # Before an end has seen which writers are open, or after new calls are kept out.
+            with self._opening:
                 check(self._call(self._library.likes_writer_open, byref(writer._at)), Status.OK)
         except BaseException:
             writer.close()
@@ -329,17 +332,23 @@ class Likes:
         nothing is done. A signal handler in the middle of a call can't end the service: RuntimeError."""
         # Before it waits for anything, which could wait for that call.
         refuse_again(self._calls.own(), "is in a call of the service")
-        refuse_again(self._ending, "ends the service, or opens a writer")
+        refuse_again(self._ending, "ends the service")
         with self._ending:
             if self._end is None:
-                # Asked before anything is done: a refusal disturbs no call, and loses no likes.
-                if any(kept.is_open() and not kept.is_dropped for kept in list(self._writers)):
-                    raise Refused(Status.OPEN_WRITER)
+                self._shut()
+                self._calls.wait()
+                # Now no seat comes back any more.
                 for kept in list(self._writers):
                     kept.end_dropped()
-                self._calls.shut()
                 self._end, self._arrays = self._last_moment(), None
             return self._end
+
+    def _shut(self) -> None:
+        """Keeps new calls out. Where a writer is open, it disturbs none."""
+        with self._opening:
+            if any(kept.is_open() and not kept.is_dropped for kept in list(self._writers)):
+                raise Refused(Status.OPEN_WRITER)
+            self._calls.shut()
 
     def _last_moment(self) -> Moment:
         """Makes the calls that end the service. None is refused, unless there is no memory. After an exception, also of
@@ -411,12 +420,9 @@ class Kept:
             self.close()
         except Refused as why:
             with self.lock:
-                # The thread of its pool may have closed it by now.
-                lost = self.library.likes_writer_drop(self.at) if self.is_open() else 0
+                lost = self.library.likes_writer_drop(self.at)
             self.close()
-            if lost > 0:
-                told = f"{lost} likes of a writer that wasn't closed are lost: {why}"
-                warnings.warn(told, RuntimeWarning, stacklevel=3)
+            warnings.warn(f"{lost} likes of a writer that wasn't closed are lost: {why}", RuntimeWarning, stacklevel=3)
 
 
 class Writer:

@@ -487,25 +487,6 @@ class Service(unittest.TestCase):
                 service.bring_back_seat(0)
         self.assertEqual(service.stop().counts, [6, 0])
 
-    def test_closing_twice(self) -> None:
-        """A dropped writer that another thread closes while the service ends, since its seat is back, loses nothing."""
-        service = opened()
-        service.retire_seat(0)
-        service.writer().like(4, 0)
-        (kept,) = service._writers
-        close = kept.close
-
-        def refused() -> None:
-            try:
-                close()
-            finally:
-                service.bring_back_seat(0)
-                close()
-
-        dropping = mock.patch.object(kept.library, "likes_writer_drop", return_value=0)
-        with mock.patch.object(kept, "close", refused), dropping as drop:
-            self.assertEqual((service.stop().counts, drop.called), ([6, 0], False))
-
     def test_errors_in_blocks(self) -> None:
         """An error in a block is the one that comes out, also where the end of the block is refused."""
         with warnings.catch_warnings(record=True) as told:
@@ -651,6 +632,34 @@ class Breaks(unittest.TestCase):
                 service.run(0, [(LIKE, 4, 0)])
             service.bring_back_seat(1)
         self.assertEqual(service.stop().counts, [7, 0])
+
+    def test_handlers_under_an_end(self) -> None:
+        """One in the middle of a call, for which an end waits, doesn't wait for that end."""
+        service, told = opened(marks=[0], period=0.001), []  # type: Likes, List[str]
+        # Daemons: where they hang, the test ends.
+        end = threading.Thread(target=service.stop, daemon=True)
+
+        def handle(_: float) -> None:
+            end.start()
+            while not service._calls._is_shut:
+                end.join(0.001)
+            try:
+                service.writer()
+            except Closed:
+                told.append("closed")
+            raise Late
+
+        def run() -> None:
+            with suppress(Late):
+                while True:
+                    service.run(0, [(LOOK, 4, 0)])
+
+        thread = threading.Thread(target=run, daemon=True)
+        with mock.patch.object(time, "sleep", handle):
+            thread.start()
+            thread.join(5)
+        self.assertEqual(told, ["closed"])
+        end.join()
 
     def test_handlers_of_writers(self) -> None:
         """A handler in the middle of a call of a writer makes others, but doesn't end the writer."""
