@@ -31,16 +31,16 @@ func (g *gate) leave(number uint32) {
 	g.places[number%uint32(len(g.places))].calls.Add(-1)
 }
 
-// shut keeps new calls out, and waits for those that have begun.
+// shut keeps new calls out.
 func (g *gate) shut() {
 	g.isShut.Store(true)
+}
+
+// wait waits for the calls that had begun when the gate was shut.
+func (g *gate) wait() {
 	for i := range g.places {
 		for g.places[i].calls.Load() != 0 {
 			time.Sleep(50 * time.Microsecond)
 		}
 	}
-}
-
-func (g *gate) open() {
-	g.isShut.Store(false)
 }

@@ -49,8 +49,9 @@ type Service struct {
 	gate         gate
 	looks        chan struct{}
 	late         atomic.Uint64 // looks that were late before they reached C, which doesn't count them
+	ended        atomic.Pointer[Statistics]
 	writers      atomic.Int64
-	ending       sync.Mutex
+	opening      sync.Mutex // of a writer, so that the gate is shut before it or after it
 }
 
 // Moment is the counts of all pages and the last likes of all users at one moment. With them as initial counts and as
@@ -295,18 +296,27 @@ func (s *Service) Save(path string) error {
 	})
 }
 
-// Statistics gives what the service has done so far.
-func (s *Service) Statistics() (Statistics, error) {
-	var told C.likes_statistics
-	err := s.call(0, func() error { return wanted(C.likes_service_statistics(s.c, &told), OK) })
-	if err != nil {
-		return Statistics{}, err
+// Statistics gives what the service has done so far, also once Stop has returned.
+func (s *Service) Statistics() (told Statistics, err error) {
+	err = s.call(0, func() error {
+		told = s.statistics()
+		return nil
+	})
+	if ended := s.ended.Load(); ended != nil {
+		return *ended, nil
 	}
+	return told, err
+}
+
+// statistics are those of C, and the looks that didn't reach it.
+func (s *Service) statistics() Statistics {
+	var told C.likes_statistics
+	C.likes_service_statistics(s.c, &told)
 	return Statistics{
 		Phases: uint64(told.phases), Likes: uint64(told.likes), Looks: uint64(told.looks),
 		Waits: uint64(told.waits), Late: uint64(told.late) + s.late.Load(),
 		WaitTime: time.Duration(told.wait_time), LongestWait: time.Duration(told.longest_wait),
-	}, nil
+	}
 }
 
 // Propose proposes pages to be split, as Driver.Propose does.
@@ -367,45 +377,41 @@ func (s *Service) Tick() {
 }
 
 // Stop ends the service, and gives its last moment. It waits for calls that have begun; later ones are ErrClosed, as is
-// a second Stop. ErrOpenWriter: a writer or a pool is open, and nothing is done.
+// a second Stop. Then Statistics gives the last ones. ErrOpenWriter: a writer or a pool is open, and nothing is done.
 func (s *Service) Stop() (*Moment, error) {
-	if err := s.call(0, s.mayEnd); err != nil {
-		return nil, err
-	}
-	s.ending.Lock()
-	defer s.ending.Unlock()
-	if s.c == nil {
-		return nil, ErrClosed
-	}
-	s.gate.shut()
-	// In C, a thread's first call takes memory for it. After the first one here, none is refused for that.
+	// In C, it is a thread that has memory for its calls.
 	runtime.LockOSThread()
 	defer runtime.UnlockOSThread()
-	var page C.uint32_t
-	err := wanted(C.likes_service_last(s.c, 0, &page), OK)
-	if err == nil {
-		err = wanted(C.likes_service_retire(s.c), OK)
-	}
-	if err != nil {
-		s.gate.open()
+	if err := s.call(0, s.shut); err != nil {
 		return nil, err
 	}
+	s.gate.wait()
 	end := &Moment{make([]uint64, s.pages), make([]uint32, s.users)}
+	C.likes_service_retire(s.c)
 	C.likes_service_lasts(s.c, pagesAt(end.Lasts), C.size_t(s.users))
 	C.likes_service_stop(s.c, countsAt(end.Counts), C.size_t(s.pages))
+	told := s.statistics()
+	s.ended.Store(&told)
 	C.likes_service_close(s.c)
 	s.c = nil
 	return end, nil
 }
 
-// mayEnd says why the service can't be ended now.
-func (s *Service) mayEnd() error {
-	if s.holdsSeat() {
-		return ErrHoldsSeat
+// shut keeps new calls out, or says why the service can't be ended now. After it, C refuses nothing of the end.
+func (s *Service) shut() error {
+	// A thread's first call takes memory for it. This one, of an array that is too short, does no more.
+	if err := wanted(C.likes_service_lasts(s.c, nil, 0), Status(ErrWrongLength)); err != nil {
+		return err
+	}
+	s.opening.Lock()
+	defer s.opening.Unlock()
+	if s.gate.isShut.Load() {
+		return ErrClosed
 	}
 	if s.writers.Load() > 0 {
 		return ErrOpenWriter
 	}
+	s.gate.shut()
 	return nil
 }
 

@@ -7,6 +7,7 @@ import (
 	"path/filepath"
 	"reflect"
 	"sync"
+	"sync/atomic"
 	"testing"
 	"time"
 )
@@ -260,7 +261,14 @@ func TestDeadline(t *testing.T) {
 	if _, err := service.LookWithin(0, 0, time.Millisecond); !errors.Is(err, ErrLate) {
 		t.Error(err)
 	}
-	if told, err := service.Statistics(); err != nil || told.Late != 3 {
+	before, err := service.Statistics()
+	if err != nil || before.Late != 3 {
+		t.Error(before, err)
+	}
+	if err := service.Close(); err != nil {
+		t.Error(err)
+	}
+	if told, err := service.Statistics(); err != nil || told.Late != 3 || told.Likes != before.Likes {
 		t.Error(told, err)
 	}
 }
@@ -592,6 +600,42 @@ func TestClosing(t *testing.T) {
 	}
 }
 
+// A Stop that is refused keeps no call out, also where a writer is opened meanwhile.
+func TestRefusedStop(t *testing.T) {
+	for times := 0; times < 50; times++ {
+		service := start(t, Options{Seats: 2, Users: 2, Period: short}, 0)
+		var begun, all sync.WaitGroup
+		var isClosed atomic.Bool
+		again := func(call func() error) {
+			defer all.Done()
+			err := call()
+			begun.Done()
+			for err == nil {
+				err = call()
+			}
+			isClosed.Store(true)
+		}
+		begun.Add(2)
+		all.Add(2)
+		go again(func() error { return service.Like(0, 0) })
+		go again(func() error {
+			writer, err := service.NewWriter()
+			if err != nil {
+				return err
+			}
+			time.Sleep(short)
+			return writer.Close()
+		})
+		begun.Wait()
+		for _, err := service.Stop(); err != nil; _, err = service.Stop() {
+			if isClosed.Load() {
+				t.Error("a call was refused by an end that gave", err)
+			}
+		}
+		all.Wait()
+	}
+}
+
 // After a close, each call is an error, and nothing panics.
 func TestAfterClose(t *testing.T) {
 	service := start(t, Options{Users: 3}, 0)
@@ -611,7 +655,7 @@ func TestAfterClose(t *testing.T) {
 	for i, err := range []error{
 		writer.Like(0, 0), writer.Flush(), drop(writer.Look(0, 0)), service.Like(0, 0), drop(service.Look(0, 0)),
 		drop(service.LookWithin(0, 0, 1)), drop(service.Glance(0, 0)), drop(service.Last(0)), drop(service.Lasts()),
-		drop(service.Counts()), drop(service.Snapshot()), drop(service.Statistics()), drop(service.SplitPages()),
+		drop(service.Counts()), drop(service.Snapshot()), drop(service.SplitPages()),
 		service.Propose(0), service.RetireSeat(0), service.BringBackSeat(0), drop(service.NewWriter()),
 		drop(service.NewPool()), drop(service.Stop()), service.WithSeat(0, func(*Held) error { return nil }),
 	} {

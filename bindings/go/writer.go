@@ -18,6 +18,11 @@ type Writer struct {
 func (s *Service) NewWriter() (*Writer, error) {
 	w := &Writer{service: s}
 	err := s.call(0, func() error {
+		s.opening.Lock()
+		defer s.opening.Unlock()
+		if s.gate.isShut.Load() {
+			return ErrClosed
+		}
 		err := wanted(C.likes_writer_open(s.c, &w.c), OK)
 		if err == nil {
 			s.writers.Add(1)

@@ -4,7 +4,8 @@ Most programs need the class Likes, and a Writer for each thread with many likes
 share. A program that changes phases by itself opens a Driver and takes its Seats and its Phase.
 
 A number that C would cut, below 0 or over 2^32 - 1, is a ValueError, and what isn't a whole number is a TypeError; then
-nothing was done. What the library refuses is a Refused with its Status, and any call after close is Closed.
+nothing was done. What the library refuses is a Refused with its Status, and any call after close is Closed, but for a
+service's statistics.
 
 The library is the file that LIKES_LIBRARY names, or else the shared library of this version, where the system finds it.
 """

@@ -2,7 +2,7 @@
 
 import os
 from ctypes import get_errno
-from typing import Tuple, Type
+from typing import Any, Tuple, Type
 
 from ._statuses import FIRST_ERROR, STATUSES, Status
 
@@ -27,6 +27,12 @@ class Closed(Exception):
 
     def __reduce__(self) -> Tuple[Type["Closed"], Tuple[()]]:
         return Closed, ()
+
+
+def refuse_again(lock: Any, what: str) -> None:
+    """Refuses a signal handler a call that would wait for the one in whose middle it is."""
+    if lock._is_owned():
+        raise RuntimeError(f"this thread {what}")
 
 
 def outcome(number: int) -> Status:

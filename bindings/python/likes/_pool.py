@@ -8,7 +8,7 @@ from contextlib import suppress
 from types import TracebackType
 from typing import TYPE_CHECKING, List, Optional, Type
 
-from ._errors import Closed, Refused
+from ._errors import Closed, Refused, check, refuse_again
 from ._rows import Seen
 from ._statuses import Status
 
@@ -58,15 +58,10 @@ class Flushing:
 
 
 def flush(lanes: "List[Writer]") -> None:
-    """Flushes all, and raises what was raised first."""
-    first: Optional[Exception] = None
-    for writer in lanes:
-        try:
-            writer.flush()
-        except (Refused, Closed) as why:
-            first = first or why
-    if first is not None:
-        raise first
+    """Flushes all, and raises why the first one that is refused is."""
+    # Not an exception kept until all are flushed: that would keep its frames, and so the pool.
+    for told in [writer._call(writer._library.likes_writer_flush) for writer in lanes]:
+        check(told, Status.OK)
 
 
 class Pool:
@@ -85,6 +80,9 @@ class Pool:
 
     def __del__(self) -> None:
         if hasattr(self, "_flushing"):
+            # Its thread ends them, or its service, where that ends first.
+            for writer in self._lanes:
+                writer._kept.is_dropped = True
             self._flushing.end()
 
     def __enter__(self) -> "Pool":
@@ -130,11 +128,18 @@ class Pool:
 
     def close(self) -> None:
         """Flushes and ends the pool. Where likes stay kept it raises what flush does, and stays open. It may be called
-        again."""
-        try:
-            flush(self._lanes)
-        except Closed:
-            pass
+        again. A signal handler in the middle of a call of the pool can't end it: RuntimeError."""
         for writer in self._lanes:
-            writer.close()
+            refuse_again(writer._lock, "is in a call of the pool")
+        self._close_with(self._lanes)
         self._flushing.end()
+
+    def _close_with(self, lanes: "List[Writer]") -> None:
+        """Closes all writers or none, with the locks of these, so that no like comes in between."""
+        if lanes:
+            with lanes[0]._lock:
+                self._close_with(lanes[1:])
+            return
+        flush([writer for writer in self._lanes if writer._kept.is_open()])
+        for writer in self._lanes:
+            writer._kept.end()

@@ -14,7 +14,7 @@ from ctypes import byref, c_uint32, c_uint64, c_void_p
 from types import TracebackType
 from typing import Any, List, NamedTuple, Optional, Sequence, Set, Type
 
-from ._errors import Closed, Refused, check, check_file, lock_fault
+from ._errors import Closed, Refused, check, check_file, lock_fault, refuse_again
 from ._library import MOST, Answer, FoundLook, Opening, last_of, load, microseconds, path_of, row_of, whole
 from ._library import Statistics as StatisticsOfC
 from ._pool import LEAST, Pool
@@ -72,10 +72,11 @@ class Calls:
             raise Closed
 
     def shut(self) -> None:
-        """Keeps new calls out, and waits for those that have begun."""
-        if self.own()._is_owned():
-            raise RuntimeError("this thread is in a call of the service")
+        """Keeps new calls out."""
         self._is_shut = True
+
+    def wait(self) -> None:
+        """Waits for those that had begun when it was shut."""
         for lock in [it() for it in list(self._locks)]:
             if lock is not None:
                 with lock:
@@ -134,9 +135,9 @@ class Likes:
         """What it has before it is opened."""
         self._library, self._at, self._end = load(), c_void_p(), None  # type: Any, Any, Optional[Moment]
         self._calls, self._ending, self._runs = Calls(), threading.RLock(), itertools.count()
-        self._writers: Set[Kept] = set()
-        # The arrays of the last moment, and what the calls of the end have answered.
-        self._arrays, self._ends = None, []  # type: Any, List[int]
+        self._opening, self._writers = threading.RLock(), set()  # type: Any, Set[Kept]
+        # The arrays of the last moment, the last statistics, and what the calls of the end have answered.
+        self._arrays, self._ended, self._ends = None, StatisticsOfC(), []  # type: Any, StatisticsOfC, List[int]
 
     def _begin(self, period: Optional[float]) -> None:
         """Once it is opened."""
@@ -206,9 +207,9 @@ class Likes:
         """Opens a writer, for a thread's likes. It is closed before the service."""
         writer = Writer(Kept(self._writers))
         try:
-            refuse_again(self._ending, "ends the service, or opens a writer")
-            # Not while the service ends: that has seen which writers are open.
-            with self._ending:
+            refuse_again(self._opening, "ends the service, or opens a writer")
+            # Before an end has seen which writers are open, or after new calls are kept out.
+            with self._opening:
                 check(self._call(self._library.likes_writer_open, byref(writer._at)), Status.OK)
         except BaseException:
             writer.close()
@@ -286,9 +287,13 @@ class Likes:
         check_file(self._call(self._library.likes_service_save, path_of(path)), path)
 
     def statistics(self) -> Statistics:
-        """What the service has done so far."""
+        """What the service has done so far, also once it has ended."""
         told = StatisticsOfC()
-        check(self._call(self._library.likes_service_statistics, byref(told)), Status.OK)
+        try:
+            check(self._call(self._library.likes_service_statistics, byref(told)), Status.OK)
+        except Closed:
+            self.stop()  # it has begun: this waits for it
+            told = self._ended
         numbers = (told.phases, told.likes, told.looks, told.waits, told.late)
         return Statistics(*numbers, told.wait_time / 1e9, told.longest_wait / 1e9)
 
@@ -323,19 +328,27 @@ class Likes:
 
     def stop(self) -> Moment:
         """Ends the service, and gives its last moment, each time the same. It waits for calls that have begun, and
-        later ones raise Closed. Where a writer is open it raises Refused, with OPEN_WRITER, and nothing is done. A
-        signal handler in the middle of a call can't end the service: RuntimeError."""
-        refuse_again(self._ending, "ends the service, or opens a writer")
+        later ones but `statistics` raise Closed. Where a writer is open it raises Refused, with OPEN_WRITER, and
+        nothing is done. A signal handler in the middle of a call can't end the service: RuntimeError."""
+        # Before it waits for anything, which could wait for that call.
+        refuse_again(self._calls.own(), "is in a call of the service")
+        refuse_again(self._ending, "ends the service")
         with self._ending:
             if self._end is None:
+                self._shut()
+                self._calls.wait()
+                # Now no seat comes back any more.
                 for kept in list(self._writers):
                     kept.end_dropped()
-                # Asked before calls are kept out: a refusal disturbs none of them.
-                if any(kept.is_open() for kept in list(self._writers)):
-                    raise Refused(Status.OPEN_WRITER)
-                self._calls.shut()
                 self._end, self._arrays = self._last_moment(), None
             return self._end
+
+    def _shut(self) -> None:
+        """Keeps new calls out. Where a writer is open, it disturbs none."""
+        with self._opening:
+            if any(kept.is_open() and not kept.is_dropped for kept in list(self._writers)):
+                raise Refused(Status.OPEN_WRITER)
+            self._calls.shut()
 
     def _last_moment(self) -> Moment:
         """Makes the calls that end the service. None is refused, unless there is no memory. After an exception, also of
@@ -348,6 +361,7 @@ class Likes:
             (library.likes_service_retire, (at,)),
             (library.likes_service_lasts, (at, lasts, self._users)),
             (library.likes_service_stop, (at, counts, self._pages)),
+            (library.likes_service_statistics, (at, byref(self._ended))),
             (library.likes_service_close, (at,)),
         ]
         for call, words in steps[len(self._ends) :]:
@@ -361,19 +375,13 @@ class Likes:
         self.stop()
 
 
-def refuse_again(lock: Any, what: str) -> None:
-    """Refuses a signal handler a call that would wait for the one in whose middle it is."""
-    if lock._is_owned():
-        raise RuntimeError(f"this thread {what}")
-
-
 class Kept:
     """A writer as C has it. Its service knows it until it is closed, also if nobody has its Writer any more."""
 
     def __init__(self, writers: Set["Kept"]) -> None:
         self.library, self.at, self.lock = load(), c_void_p(), threading.RLock()
         self.ends: List[int] = []  # what the last close has answered
-        self._is_dropped, self._process = False, os.getpid()
+        self.is_dropped, self._process = False, os.getpid()
         self._writers = writers  # those of the service that may be open
         writers.add(self)
 
@@ -383,6 +391,10 @@ class Kept:
     def close(self) -> None:
         """Flushes the writer and ends it, or raises why likes stay kept."""
         refuse_again(self.lock, "is in a call of the writer")
+        self.end()
+
+    def end(self) -> None:
+        """The same, for a thread that may have its lock."""
         with self.lock:
             if OK not in self.ends:
                 # Made and noted in one step of C: no exception gets in between, so nothing is freed twice.
@@ -392,7 +404,7 @@ class Kept:
 
     def drop(self) -> None:
         """Nobody has its Writer any more: it is flushed, or the end of the service tries again."""
-        self._is_dropped = True
+        self.is_dropped = True
         # In the child of a fork, and at the end of the program, other threads may never give back what it waits for.
         if self.is_open() and self._process == os.getpid() and not sys.is_finalizing():
             try:
@@ -402,13 +414,11 @@ class Kept:
 
     def end_dropped(self) -> None:
         """Ends it at the end of its service, if nobody has its Writer any more. Likes that nobody counts are told."""
-        if not self._is_dropped:
+        if not self.is_dropped:
             return
         try:
             self.close()
         except Refused as why:
-            if why.status == Status.HOLDS_SEAT:
-                raise
             with self.lock:
                 lost = self.library.likes_writer_drop(self.at)
             self.close()

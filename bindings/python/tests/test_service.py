@@ -12,10 +12,11 @@ import threading
 import time
 import unittest
 import warnings
+from contextlib import suppress
 from typing import Any, Callable, Dict, List, Tuple
 from unittest import mock
 
-from likes import GLANCE, LIKE, LIKED, LOOK, NO_HOT, Closed, Likes, Moment, Refused, Seen, Status, Told, _service
+from likes import GLANCE, LIKE, LIKED, LOOK, NO_HOT, Closed, Likes, Moment, Refused, Seen, Status, Told, _pool, _service
 
 from .numbers import OUTSIDE, WRONG
 
@@ -187,7 +188,7 @@ class Service(unittest.TestCase):
         for row in ([(LIKE, 4, 0)], []):
             self.assertRaises(Closed, service.run, 0, row)
         calls: List[Callable[[], object]]
-        calls = [service.lasts, service.split_pages, service.counts, service.snapshot, service.statistics]
+        calls = [service.lasts, service.split_pages, service.counts, service.snapshot]
         for call in [*calls, service.phase, service.writer, service.tick, writer.flush]:
             self.assertRaises(Closed, call)
         for single in (service.last, service.retire_seat, service.bring_back_seat):
@@ -196,6 +197,25 @@ class Service(unittest.TestCase):
             self.assertRaises(Closed, service.propose, pages)
         self.assertRaises(Closed, service.look_within, 4, 0, 1)
         self.assertEqual(writer.drop(), 0)
+
+    def test_statistics_after_the_end(self) -> None:
+        """What was done until then, also while another thread ends the service."""
+        service, told = opened(), []  # type: Likes, List[int]
+        service.like(4, 1)
+        service.look(4, 1)
+        self.assertEqual(service.statistics()[1:3], (1, 1))
+        thread = threading.Thread(target=lambda: told.append(service.statistics().likes))
+        moment = service._last_moment
+
+        def last_moment() -> Moment:
+            thread.start()
+            thread.join(0.1)
+            return moment()
+
+        with mock.patch.object(service, "_last_moment", last_moment):
+            service.close()
+        thread.join()
+        self.assertEqual((told, service.statistics()[1:3]), ([1], (1, 1)))
 
     def test_files(self) -> None:
         """A service that goes on from a file, also with more users and pages."""
@@ -349,17 +369,59 @@ class Service(unittest.TestCase):
             self.assertEqual(pool.drop(), 1)
         self.assertEqual(service.stop().counts, [7, 0])
 
+    def test_likes_while_a_pool_closes(self) -> None:
+        """A pool is closed as a whole, or stays open. A like of another thread comes before, or raises Closed."""
+        told: List[str] = []
+        with opened(users=4, period=100) as service:
+            pool = service.pool()
+            service.retire_seat(1)
+
+            def like() -> None:
+                try:
+                    pool.like(1, 0)
+                except Closed:
+                    told.append("closed")
+
+            thread, flush = threading.Thread(target=like), _pool.flush
+
+            def flushed(lanes: List[Any]) -> None:
+                flush(lanes)
+                thread.start()
+                thread.join(0.1)
+
+            with mock.patch.object(_pool, "flush", flushed):
+                pool.close()
+            thread.join()
+        self.assertEqual((told, service.stop().counts), (["closed"], [5, 0]))
+
     def test_dropped_pools(self) -> None:
-        """A pool that nobody has any more keeps no service open."""
-        service = opened(period=0.0002)
-        service.pool().like(4, 1)
-        while True:
-            try:
-                self.assertEqual(service.stop().counts, [5, 1])
-                break
-            except Refused as why:
-                self.assertEqual(why.status, Status.OPEN_WRITER)
+        """A pool that nobody has any more keeps no service open, also where it was dropped just now."""
+        for _ in range(20):
+            with opened(period=100) as service:
+                service.pool().like(4, 1)
+            self.assertEqual(service.stop().counts, [5, 1])
+
+    def test_dropped_pools_after_errors(self) -> None:
+        """Nor does one that was refused a flush, before the garbage collector comes."""
+        gc.disable()
+        self.addCleanup(gc.enable)
+        with opened() as service:
+            service.retire_seat(1)
+            pool = service.pool()
+            pool.like(1, 0)
+            with suppress(Refused):
+                pool.flush()
+            del pool
+            service.bring_back_seat(1)
+        self.assertEqual(service.stop().counts, [6, 0])
+
+    def test_ends_of_dropped_pools(self) -> None:
+        """A pool's thread closes its writers soon."""
+        with opened(period=100) as service:
+            service.pool().like(4, 1)
+            while service._writers:
                 time.sleep(0.001)
+            self.assertEqual(service.counts(), [5, 1])
 
     def test_looks_of_a_writer(self) -> None:
         """A look through a writer shows each like of its page that the writer was told, by whichever user."""
@@ -405,13 +467,25 @@ class Service(unittest.TestCase):
         self.assertEqual(service.stop().counts, [7, 3])
 
     def test_lost_likes(self) -> None:
-        """What a dropped writer keeps for a seat that has left for good is told."""
-        service = opened()
-        service.retire_seat(0)
-        service.writer().like(4, 0)
-        gc.collect()
-        with self.assertWarnsRegex(RuntimeWarning, "^1 likes of a writer"):
-            self.assertEqual(service.stop().counts, [5, 0])
+        """What a dropped writer or pool keeps for a seat that has left for good is told."""
+        openings: List[Callable[[Likes], Any]] = [Likes.writer, Likes.pool]
+        for opening in openings:
+            service = opened()
+            service.retire_seat(0)
+            opening(service).like(4, 0)
+            gc.collect()
+            with self.assertWarnsRegex(RuntimeWarning, "^1 likes of a writer"):
+                self.assertEqual(service.stop().counts, [5, 0])
+
+    def test_kept_likes(self) -> None:
+        """A refused end loses no likes of dropped writers."""
+        with opened() as service:
+            with service.writer():
+                service.retire_seat(0)
+                service.writer().like(4, 0)
+                self.refused(Status.OPEN_WRITER, service.stop)
+                service.bring_back_seat(0)
+        self.assertEqual(service.stop().counts, [6, 0])
 
     def test_errors_in_blocks(self) -> None:
         """An error in a block is the one that comes out, also where the end of the block is refused."""
@@ -543,6 +617,49 @@ class Breaks(unittest.TestCase):
                 while True:
                     service.run(0, [(LOOK, 4, 0)])
             self.assertEqual(service.look(4, 1), Seen(1, 1))
+
+    def test_handlers_with_seats(self) -> None:
+        """One in the middle of a call touches no dropped writer: it could wait for a thread that waits for its seat."""
+        with opened() as service:
+            service.retire_seat(1)
+            service.writer().like(1, 0)
+
+            def handle(*_: object) -> bool:
+                self.assertRaises(RuntimeError, service.close)
+                return False
+
+            with mock.patch.object(service._library, "likes_service_take_found", handle):
+                service.run(0, [(LIKE, 4, 0)])
+            service.bring_back_seat(1)
+        self.assertEqual(service.stop().counts, [7, 0])
+
+    def test_handlers_under_an_end(self) -> None:
+        """One in the middle of a call, for which an end waits, doesn't wait for that end."""
+        service, told = opened(marks=[0], period=0.001), []  # type: Likes, List[str]
+        # Daemons: where they hang, the test ends.
+        end = threading.Thread(target=service.stop, daemon=True)
+
+        def handle(_: float) -> None:
+            end.start()
+            while not service._calls._is_shut:
+                end.join(0.001)
+            try:
+                service.writer()
+            except Closed:
+                told.append("closed")
+            raise Late
+
+        def run() -> None:
+            with suppress(Late):
+                while True:
+                    service.run(0, [(LOOK, 4, 0)])
+
+        thread = threading.Thread(target=run, daemon=True)
+        with mock.patch.object(time, "sleep", handle):
+            thread.start()
+            thread.join(5)
+        self.assertEqual(told, ["closed"])
+        end.join()
 
     def test_handlers_of_writers(self) -> None:
         """A handler in the middle of a call of a writer makes others, but doesn't end the writer."""

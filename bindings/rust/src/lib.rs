@@ -48,4 +48,4 @@ pub use options::{Hot, Options, MAX_COUNT, MAX_HOT, MAX_MARKS, MAX_PAGES, MAX_PE
 pub use phase::Phase;
 pub use rows::{Answer, Found, Op, Request};
 pub use seat::Seat;
-pub use service::{Held, Moment, Service, Writer};
+pub use service::{Ended, Held, Moment, Service, Writer};

@@ -48,6 +48,17 @@ pub struct Moment {
     pub lasts: Vec<Last>,
 }
 
+/// The last [`Moment`] of a service, and what it has done until then.
+#[derive(Clone, Debug, Default, PartialEq, Eq)]
+pub struct Ended {
+    /// The count of each page.
+    pub counts: Vec<u64>,
+    /// The last like of each user.
+    pub lasts: Vec<Last>,
+    /// What the service has done.
+    pub statistics: Statistics,
+}
+
 impl Service {
     /// Opens a service with the initial count of each page, and starts its thread.
     ///
@@ -309,19 +320,19 @@ impl Service {
         check(unsafe { ffi::likes_service_bring_back_seat(self.at, number) })
     }
 
-    /// Ends the service, and gives its last moment. Found looks that weren't taken are lost.
+    /// Ends the service, and gives its last moment, with its statistics. Found looks that weren't taken are lost.
     ///
     /// # Errors
     ///
     /// [`Error::OpenWriter`], where a writer was leaked, as by [`mem::forget`](std::mem::forget). The service is leaked
     /// then, too.
-    pub fn stop(self) -> Result<Moment, Error> {
+    pub fn stop(self) -> Result<Ended, Error> {
         // SAFETY: the service is this thread's own.
         check(unsafe { ffi::likes_service_retire(self.at) })?;
         let (lasts, mut counts) = (self.lasts()?, vec![0; self.pages]);
         // SAFETY: the service is this thread's own, and the slice has the length that is told.
         check(unsafe { ffi::likes_service_stop(self.at, counts.as_mut_ptr(), counts.len()) })?;
-        Ok(Moment { counts, lasts })
+        Ok(Ended { counts, lasts, statistics: self.statistics() })
     }
 
     /// Why a seat can't be held. Where nothing is wrong with it, there is no memory for the thread.

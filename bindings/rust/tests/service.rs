@@ -6,7 +6,7 @@ use std::sync::Arc;
 use std::thread;
 use std::time::Duration;
 
-use likes::{Answer, Error, Hot, Last, Moment, Options, Outcome, Request, Seen, Service, Writer};
+use likes::{Answer, Error, Hot, Last, Moment, Options, Outcome, Request, Seen, Service, Statistics, Writer};
 
 const PERIOD: Duration = Duration::from_micros(200);
 const THREADS: u32 = 4;
@@ -95,6 +95,9 @@ fn no_like_and_no_look_is_lost() {
     assert!(statistics.phases > 2 && statistics.wait_time >= statistics.longest_wait);
     let ended = service.stop().unwrap();
     assert_eq!(ended.counts, likes);
+    let (phases, now) = (ended.statistics.phases, ended.statistics);
+    assert!(phases >= statistics.phases);
+    assert_eq!(Statistics { phases, ..statistics }, now);
     let last = |user: u32| (0..EACH).rev().find(|i| i % 100 == user / THREADS).map(|i| i % 3);
     assert!((0..400).map(last).eq(ended.lasts.iter().map(|last| last.page())));
 }
@@ -128,7 +131,8 @@ fn a_snapshot_is_of_one_moment() {
     });
     let moment = service.snapshot().unwrap();
     assert!(is_one(&moment));
-    assert_eq!(service.stop(), Ok(moment));
+    let ended = service.stop().unwrap();
+    assert_eq!((ended.counts, ended.lasts), (moment.counts, moment.lasts));
 }
 
 #[test]
@@ -345,10 +349,10 @@ fn a_file_has_a_moment() {
     let first = open(2, 8, 16);
     first.like(3, 2).unwrap();
     first.save(&path).unwrap();
-    let moment = first.stop().unwrap();
+    let moment = first.snapshot().unwrap();
     let options = |users| Options { seats: Some(3), ..Options::new(users) };
     let same = Service::load(&path, &options(0), 0).unwrap();
-    assert_eq!(same.stop(), Ok(moment.clone()));
+    assert_eq!(same.snapshot(), Ok(moment.clone()));
     let grown = Service::load(&path, &options(9), moment.counts.len() + 1).unwrap().stop().unwrap();
     assert_eq!((grown.counts.len(), grown.lasts.len()), (moment.counts.len() + 1, 9));
     assert_eq!((&grown.counts[..moment.counts.len()], &grown.lasts[..8]), (&moment.counts[..], &moment.lasts[..]));

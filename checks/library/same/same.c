@@ -393,8 +393,13 @@ static void leave_shared(shared *it) {
     say_done("back", likes_service_bring_back_seat(it->at, number));
 }
 
-static void call_shared(shared *it) {
+static void say_statistics(shared *it) {
     likes_statistics told;
+    likes_service_statistics(it->at, &told);
+    printf("statistics %" PRIu64 " %" PRIu64 "\n", told.likes, told.looks);
+}
+
+static void call_shared(shared *it) {
     uint32_t kind = draw(16);
     if (kind < 7) {
         like_or_look_shared(it, kind);
@@ -409,8 +414,7 @@ static void call_shared(shared *it) {
     } else if (kind == 14) {
         leave_shared(it);
     } else {
-        likes_service_statistics(it->at, &told);
-        printf("statistics %" PRIu64 " %" PRIu64 "\n", told.likes, told.looks);
+        say_statistics(it);
     }
 }
 
@@ -430,10 +434,11 @@ static void open_and_call_shared(void) {
     likes_service_retire(it.at);
     likes_service_lasts(it.at, lasts, it.users);
     likes_service_stop(it.at, counts, it.pages);
-    likes_service_close(it.at);
     printf("stop");
     list_counts(&it, counts);
     list_lasts(&it, lasts);
+    say_statistics(&it);
+    likes_service_close(it.at);
 }
 
 int main(void) {

@@ -358,6 +358,11 @@ struct Shared {
         done("back", [&] { service.bring_back_seat(number); });
     }
 
+    void tell_statistics() {
+        likes::Statistics told = service.statistics();
+        std::cout << "statistics " << told.likes << " " << told.looks << "\n";
+    }
+
     void call() {
         std::uint32_t kind = draw(16);
         if (kind < 7) {
@@ -373,8 +378,7 @@ struct Shared {
         } else if (kind == 14) {
             leave();
         } else {
-            likes::Statistics told = service.statistics();
-            std::cout << "statistics " << told.likes << " " << told.looks << "\n";
+            tell_statistics();
         }
     }
 };
@@ -395,6 +399,7 @@ static void open_and_call_shared() {
     for (int i = 0; i < shared_calls; i++)
         it.call();
     std::cout << "stop" << Shared::moment(service.stop()) << "\n";
+    it.tell_statistics();
 }
 
 int main() {

@@ -473,6 +473,11 @@ func (it *shared) leave() {
 	done("back", it.service.BringBackSeat(number))
 }
 
+func (it *shared) tellStatistics() {
+	told, err := it.service.Statistics()
+	tell("statistics", fmt.Sprint(" ", told.Likes, " ", told.Looks), err)
+}
+
 func (it *shared) call() {
 	kind := draw(16)
 	switch {
@@ -489,8 +494,7 @@ func (it *shared) call() {
 	case kind == 14:
 		it.leave()
 	default:
-		told, err := it.service.Statistics()
-		tell("statistics", fmt.Sprint(" ", told.Likes, " ", told.Looks), err)
+		it.tellStatistics()
 	}
 }
 
@@ -510,6 +514,7 @@ func openAndCallShared() {
 	}
 	m, err := service.Stop()
 	tellMoment("stop", m, err)
+	it.tellStatistics()
 }
 
 func main() {

@@ -275,6 +275,9 @@ class Shared:
         self.tell("like", lambda: self.service.like(0, 0))
         self.tell("back", lambda: self.service.bring_back_seat(number))
 
+    def tell_statistics(self):
+        self.tell("statistics", self.service.statistics, lambda told: [told.likes, told.looks])
+
     def call(self):
         kind = self.draws.draw(16)
         if kind < 7:
@@ -291,7 +294,7 @@ class Shared:
         elif kind == 14:
             self.leave()
         else:
-            self.tell("statistics", self.service.statistics, lambda told: [told.likes, told.looks])
+            self.tell_statistics()
 
 
 def open_and_call_shared(draws):
@@ -304,6 +307,7 @@ def open_and_call_shared(draws):
     for _ in range(SHARED_CALLS):
         it.call()
     it.tell("stop", service.stop, it.moment)
+    it.tell_statistics()
 
 
 def main():

@@ -4,8 +4,8 @@ use std::fmt::Display;
 use std::io::{self, BufWriter, Write};
 use std::time::Duration;
 
-use likes::{Answer, Driver, End, Error, Glance, Hot, Last, LastCounts, Look, Moment, Op, Options, Outcome, Phase};
-use likes::{Request, Seat, Seen, Snapshot, Turn, MAX_COUNT, MAX_HOT, MAX_ROOM};
+use likes::{Answer, Driver, End, Ended, Error, Glance, Hot, Last, LastCounts, Look, Moment, Op, Options, Outcome};
+use likes::{Phase, Request, Seat, Seen, Snapshot, Statistics, Turn, MAX_COUNT, MAX_HOT, MAX_ROOM};
 
 const SERVICES: u32 = 300;
 const CALLS: u32 = 400;
@@ -290,6 +290,10 @@ fn moment_text(moment: Moment) -> String {
     words(moment.counts) + &words(moment.lasts.into_iter().map(last_text))
 }
 
+fn statistics_text(told: Statistics) -> String {
+    format!("statistics {} {}", told.likes, told.looks)
+}
+
 /// A service that threads share.
 struct Shared<'a> {
     draws: &'a mut Draws,
@@ -390,10 +394,7 @@ impl Shared<'_> {
             12 => self.propose(),
             13 => self.row(),
             14 => self.leave(),
-            _ => {
-                let told = self.service.statistics();
-                format!("statistics {} {}", told.likes, told.looks)
-            }
+            _ => statistics_text(self.service.statistics()),
         };
         if lines.is_empty() {
             return Ok(());
@@ -414,7 +415,9 @@ fn open_and_call_shared(draws: &mut Draws, out: &mut dyn Write) -> io::Result<()
     for _ in 0..SHARED_CALLS {
         Shared { draws, out, users, pages, service: &service }.call()?;
     }
-    writeln!(out, "stop{}", told(service.stop(), moment_text))
+    let Ended { counts, lasts, statistics } = service.stop().expect("an end");
+    writeln!(out, "stop{}", moment_text(Moment { counts, lasts }))?;
+    writeln!(out, "{}", statistics_text(statistics))
 }
 
 fn main() -> io::Result<()> {
