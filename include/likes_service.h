@@ -151,12 +151,14 @@ size_t likes_writer_drop(likes_writer *writer);
  * thread that holds a seat may close it. A service is not ended while a writer is open. */
 uint32_t likes_writer_close(likes_writer *writer);
 
-/* Writes the page of a user's last like: an answer of likes_seat_last. Any thread may call it. */
+/* Writes the page of a user's last like, once no other thread holds the seat: an answer of likes_seat_last. Any thread
+ * may call it. */
 uint32_t likes_service_last(likes_service *service, uint32_t user, uint32_t *page);
 
 /* Writes the pages of all users' last likes, by user number, as likes_open takes them: LIKES_OK, or LIKES_WRONG_LENGTH,
- * where the array hasn't one entry for each user. Those of one seat are of one moment, and after likes_service_retire
- * all are final: with the counts that likes_service_stop then gives, a new service goes on where this one has ended. */
+ * where the array hasn't one entry for each user. It reads a seat once no other thread holds that. Those of one seat
+ * are of one moment, and after likes_service_retire all are final: with the counts that likes_service_stop then gives, a
+ * new service goes on where this one has ended. */
 uint32_t likes_service_lasts(likes_service *service, uint32_t *lasts, size_t users);
 
 /* The counts of all pages at one moment, the end of a joined phase: LIKES_COUNTED, also where all seats have left. Or
@@ -168,7 +170,7 @@ uint32_t likes_service_counts(likes_service *service, uint64_t *counts, size_t p
 /* Writes the counts as likes_service_counts does, and all users' last likes at that moment, by user number: what a new
  * service is opened with to go on from it. All seats stand still until they are written. LIKES_NO_MOMENT: since this
  * call first found that another thread holds a seat, that thread has held it for a tenth of a second, in no call of the
- * service but such that answer LIKES_BETWEEN. Then some numbers, or all, are not written. */
+ * service but by its handle while the phase was ending. Then some numbers, or all, are not written. */
 uint32_t likes_service_snapshot(likes_service *service, uint64_t *counts, size_t pages, uint32_t *lasts, size_t users);
 
 /* Saves what likes_service_snapshot writes to a file: LIKES_OK. After a crash there is the file as it was, or the new one.
@@ -238,18 +240,20 @@ void likes_service_tick(likes_service *service);
 /* Does the phase work of the seats that nobody holds. */
 void likes_service_seat_turns(likes_service *service);
 
-/* Has a seat leave, in a few phases at any period: LIKES_OK, once it is gone, also if it was before. Then likes and
- * looks of its users answer LIKES_GONE, but for last likes and found looks. All seats may leave. */
+/* Has a seat leave, in a few phases at any period, once no other thread holds it: LIKES_OK, once it is gone, also if it
+ * was before. Then likes and looks of its users answer LIKES_GONE, but for last likes and found looks. All seats may
+ * leave. */
 uint32_t likes_service_retire_seat(likes_service *service, uint32_t number);
 
-/* Brings a seat back that has left: LIKES_OK, once it runs a phase, also if it wasn't gone. LIKES_GONE: all seats have
- * left for good, by likes_service_retire. */
+/* Brings a seat back that has left, as likes_service_retire_seat does: LIKES_OK, once it runs a phase, also if it wasn't
+ * gone. LIKES_GONE: all seats have left for good, by likes_service_retire. */
 uint32_t likes_service_bring_back_seat(likes_service *service, uint32_t number);
 
 /* Ends the driver's thread, has all seats retire, and makes the driver's turns until it answers LIKES_ENDED: LIKES_OK.
  * Or nothing is done: LIKES_OPEN_WRITER. No thread holds a seat, and no call of the service is begun any more but
  * likes_service_lock, likes_seat_take_found, likes_service_take_found, likes_service_unlock, likes_service_last,
- * likes_service_lasts, likes_service_counts, likes_service_snapshot, likes_service_stop and likes_service_close. */
+ * likes_service_lasts, likes_service_counts, likes_service_snapshot, likes_service_save, likes_service_stop,
+ * likes_service_close, and those that only tell a number or a status. */
 uint32_t likes_service_retire(likes_service *service);
 
 /* Ends the service and gives the final counts: LIKES_OK. Or nothing is done: LIKES_OPEN_WRITER, or LIKES_WRONG_LENGTH,

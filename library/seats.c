@@ -24,10 +24,10 @@ static inline inner_seat *begin(const likes_seat *seat, inner_member **member) {
     return mine;
 }
 
-/* A call that is between two phases did nothing: so a thread that tries again and again holds up no snapshot for ever,
+/* A call while the phase is ending doesn't count: so a thread that calls again and again holds up no snapshot for ever,
  * which keeps the phase from ending until it has all seats. */
 static inline uint32_t end(inner_member *member, inner_seat *mine, uint32_t status) {
-    inner_note_call(mine, status == LIKES_BETWEEN ? 0 : 2);
+    inner_note_call(mine, mine->service->is_ending ? 0 : 2);
     inner_after(member, mine);
     return status;
 }
@@ -76,7 +76,12 @@ LOCKED uint32_t locked_retire(const likes_seat *seat) {
 }
 
 LOCKED uint32_t locked_come_back(const likes_seat *seat) {
-    AT_SEAT(come_back(client, number));
+    inner_member *member;
+    inner_seat *mine = begin(seat, &member);
+    if (mine == NULL)
+        return LIKES_NOT_LOCKED;
+    bool is_over = mine->service->is_stopping;
+    return end(member, mine, is_over ? (uint32_t)LIKES_GONE : likes_client_come_back(&member->client, mine->number));
 }
 
 LOCKED uint32_t locked_phase(const likes_seat *seat, uint64_t *phase) {
@@ -94,7 +99,7 @@ LOCKED size_t locked_run(const likes_seat *seat, const likes_request *requests, 
         return 0;
     }
     size_t done = inner_run(member, mine, requests, length, answers, false);
-    end(member, mine, done == 0 && length > 0 ? answers[0].status : (uint32_t)LIKES_OK);
+    end(member, mine, LIKES_OK);
     return done;
 }
 

@@ -2,12 +2,13 @@
  * stopped; a service that is opened where there is one; wrong seats and periods; seats that have all left; looks with
  * the host's own tags at a seat that also answers likes_service_look; arrays of no entries, of a wrong length, or with
  * a length that was forgotten; and each pointer that is NULL. Threads read the phase while it changes, and a service
- * can't start its thread. Pages are proposed and split.
+ * can't start its thread. Pages are proposed and split. A signal that the host blocks ends nothing.
  *
  * If a call is answered otherwise, it prints a line and exits with status 1. After 30 seconds a signal ends it. */
 #include "harness.h"
 
 #include <errno.h>
+#include <signal.h>
 
 /* The linker calls this in place of pthread_create: while this is set, it refuses. */
 static bool has_no_threads;
@@ -518,6 +519,10 @@ static void last_likes(void) {
     IS(likes_service_lasts(service, lasts, 100), LIKES_OK);
     for (uint32_t user = 0; user < 100; user++)
         IS(lasts[user], user % 3 == 0 ? user % 2 : LIKES_NO_PAGE);
+    likes_seat *seat = likes_service_lock(service, 3);
+    IS(likes_seat_come_back(seat), LIKES_GONE);
+    IS(likes_seat_like(seat, 3, 0), LIKES_GONE);
+    likes_service_unlock(service, 3);
     stop(totals, 2);
     lasts[1] = 2;
     IS(open_shared(options, counts, 2, NULL, 0, lasts, 100, 1000, &service), LIKES_WRONG_LASTS);
@@ -530,9 +535,26 @@ static void last_likes(void) {
     stop(totals, 2);
 }
 
+/* A signal that the host's threads block waits for them. */
+static void signals(void) {
+    uint64_t totals[2];
+    sigset_t set;
+    int told = 0;
+    sigemptyset(&set);
+    sigaddset(&set, SIGUSR1);
+    IS(start(1, 4, 1000), LIKES_OK);
+    pthread_sigmask(SIG_BLOCK, &set, NULL);
+    kill(getpid(), SIGUSR1);
+    IS(sigwait(&set, &told), 0);
+    IS(told, SIGUSR1);
+    pthread_sigmask(SIG_UNBLOCK, &set, NULL);
+    stop(totals, 2);
+}
+
 int main(void) {
     alarm(30);
     not_started();
+    signals();
     no_thread();
     proposals();
     unknown_seats();

@@ -153,8 +153,12 @@ size_t likes_service_run(likes_service *service, uint32_t number, const likes_re
         inner_refuse(length > 0 ? answers : NULL, fault);
         return 0;
     }
-    inner_note_call(member->locked, 1);
     inner_note_use(service);
+    if (length == 0) {
+        inner_after(member, member->locked);
+        return 0;
+    }
+    inner_note_call(member->locked, 1);
     size_t done = inner_run(member, member->locked, requests, length, answers, true);
     inner_note_call(member->locked, 1);
     return done;

@@ -2,6 +2,7 @@
 #include "../defaults.h"
 #include "service.h"
 
+#include <signal.h>
 #include <stdlib.h>
 
 /* Makes a service over what is proved of it, which is closed. NULL: no memory. */
@@ -48,7 +49,16 @@ static void end(likes_service *service) {
     pthread_mutex_destroy(&service->turning);
 }
 
-/* Starts the driver's thread. */
+/* Starts the driver's thread, which takes none of the host's signals. */
+static bool starts(likes_service *service) {
+    sigset_t all, old;
+    sigfillset(&all);
+    pthread_sigmask(SIG_SETMASK, &all, &old);
+    service->has_thread = pthread_create(&service->thread, NULL, inner_driver, service) == 0;
+    pthread_sigmask(SIG_SETMASK, &old, NULL);
+    return service->has_thread;
+}
+
 static uint32_t begin(likes_service *service) {
     service->is_open = true;
     if (!inner_members_open(service))
@@ -58,8 +68,7 @@ static uint32_t begin(likes_service *service) {
         likes_proved_client_address(&service->own->client, i, &lasts);
         service->seat[i].lasts = (uintptr_t)lasts.at;
     }
-    service->has_thread = pthread_create(&service->thread, NULL, inner_driver, service) == 0;
-    return service->has_thread ? LIKES_OK : LIKES_NO_THREAD;
+    return starts(service) ? LIKES_OK : LIKES_NO_THREAD;
 }
 
 uint32_t likes_service_open(const likes_options *options, likes_service **service) {

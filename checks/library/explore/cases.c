@@ -419,6 +419,17 @@ static void hold_0_alone(void) {
     likes_service_unlock(explored, 0);
 }
 
+/* Rows of no request at a held seat, as long as looks wait. */
+static void rows_of_none(void) {
+    begin(USERS);
+    begin_call("rows of none", 2 * PERIOD);
+    likes_service_lock(explored, 0);
+    for (uint64_t phase = explored->released; explored->released < phase + 2; nap(MS))
+        likes_service_run(explored, 0, NULL, 0, NULL);
+    likes_service_unlock(explored, 0);
+    end_call();
+}
+
 /* Likes of a held seat, through a change of phases. The thread takes no found looks. */
 static void row_of_likes(void) {
     likes_request requests[2] = {{.user = 1, .page = 1}, {.user = 1, .page = 1}};
@@ -459,10 +470,13 @@ static void held_calls(void) {
 /* A seat that is held, and called until a like is counted after some time. */
 static void hold_and_try(void) {
     uint64_t until = model_time() + 2 * PERIOD;
+    likes_found found;
     begin(0);
     likes_seat *seat = likes_service_lock(explored, 0);
-    while (likes_seat_like(seat, 0, 1) != LIKES_LIKED || model_time() < until)
+    while (likes_seat_like(seat, 0, 1) != LIKES_LIKED || model_time() < until) {
+        likes_seat_take_found(seat, &found);
         nap(MS);
+    }
     likes_service_unlock(explored, 0);
 }
 
@@ -598,6 +612,7 @@ const explore_case explore_cases[] = {
     {"early-drive", split, {look_0, drive}, 2, false, NULL},
     {"early-turns", split, {look_0, seat_turns}, 2, false, NULL},
     {"early-held", split, {look_0, held_calls}, 2, false, NULL},
+    {"early-none", split, {look_long, rows_of_none}, 1, false, NULL},
     {"early-counts", split, {look_0, take_counts}, 2, false, NULL},
     {"early-propose", split, {look_0, propose}, 2, false, NULL},
     {"early-pages", split, {look_0, split_pages}, 2, false, NULL},
