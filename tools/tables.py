@@ -313,9 +313,9 @@ class Table(reading.Log):
         return f"{len(row)} fields, not {len(header.names) or header.least}: {shown(text)}"
 
     def time_of(self, piece):
-        place = piece.header.places[3]
+        header = piece.header
         found = map(piece.row, range(len(piece.lines)))
-        return self.first_of(row[place] for row in found if len(row) > place)
+        return self.first_of(row[header.places[3]] for row in found if header.takes(row))
 
 
 def delimiter(text):

@@ -3,6 +3,7 @@
 import argparse
 import itertools
 import json
+import math
 import operator
 import os
 import re
@@ -37,8 +38,7 @@ PORTED = re.compile(r"([0-9.]+|\[[0-9a-fA-F:.%]+\]):[0-9]{1,5}")
 ASKED = r'\[([^][\n]{0,99})\] "([^"\\\n]*(?:\\.[^"\\\n]*)*)" ([0-9]{3}) '
 AGENT = r'(?:[^ \n]+ "[^"\\\n]*(?:\\.[^"\\\n]*)*" "([^"\\\n]*(?:\\.[^"\\\n]*)*)")?'
 
-# A time in a piece of a log, before a request. A line that is right from its time on, and one that looks like that.
-TIME = re.compile(rb'\[([0-9][^][\n]{0,98})\] "')
+# A line that is right from its time on, and one that looks like that.
 BEHIND = re.compile(rf'[^"\n]*? {ASKED}')
 LIKE_ONE = re.compile(r'[^ \n]+ [^\n]*\[[^][\n]{0,99}\] "')
 
@@ -208,11 +208,9 @@ class Web(reading.Log):
     def requests_in(self, first, block):
         """The requests of a piece of the log, whose lines begin with the first."""
         meanings = self.meanings
-        addresses, users, times, requests, statuses, agents, _ = columns = self.columns_of(
-            block.decode(errors=reading.ESCAPED)
-        )
+        addresses, users, times, requests, statuses, agents, others = self.columns_in(block)
         for at in reading.places(statuses, ""):
-            self.read_apart(columns, at, first + at)
+            self.leave_out(self.why_unread(others[at]), first + at, others[at])
         meanings.make_room()
         numbers = list(map(meanings.__getitem__, requests))
         for at in reading.places(numbers, 0):
@@ -229,14 +227,36 @@ class Web(reading.Log):
             self.drop(NO_USER, [user not in NOBODY for user in users], numbers, lines, requests)
         return lines, numbers, users, times, requests
 
+    def columns_in(self, block):
+        """The lines of a piece: addresses, users, times, requests, statuses, agents, and lines that can't be read. All
+        else is then empty."""
+        columns = self.columns_of(block.decode(errors=reading.ESCAPED))
+        *_, statuses, _, others = columns
+        for at in reading.places(statuses, ""):
+            for column, value in zip(columns, self.read_apart(others[at])):
+                column[at] = value
+        return columns
+
     def columns_of(self, text):
-        """The lines of a text: addresses, users, times, requests, statuses, agents, and lines that are none of these.
-        All else is then empty."""
+        """These of a text, where lines that have to be read apart aren't read yet."""
         raise NotImplementedError
 
-    def read_apart(self, columns, at, line):
-        """Reads a line that is none of these, or leaves it out."""
+    def read_apart(self, text):
+        """What a line that has to be read apart has in each column, or nothing."""
+        return ()
+
+    def why_unread(self, text):
+        """Why a line can't be read."""
         raise NotImplementedError
+
+    def time_of(self, block):
+        """The first time in a piece that a line which is read has. Mostly it is the first line."""
+        begin, found = 0, -math.inf
+        while begin < len(block) and found == -math.inf:
+            end = block.find(b"\n", 2 * begin) + 1 or len(block)
+            _, _, times, *_ = self.columns_in(block[begin:end])
+            begin, found = end, self.first_of(times)
+        return found
 
     def users_of(self, addresses, users, requests, named):
         """The users: those that requests name, those that the server logged, or else the addresses."""
@@ -304,21 +324,19 @@ class Combined(Web):
                 others[at] = found[0]
         return columns
 
-    def read_apart(self, columns, at, line):
-        text = columns[-1][at]
-        match = self.line.match(text)
-        if text.count(ASKS) > 1 and TWO.match(text):
-            self.leave_out(TORN, line, text)
-        elif match and (match[2] == "-" or " - " not in f" {match[2]} "):
-            for column, value in zip(columns, match.groups("")):
-                column[at] = value
-        elif BEHIND.match(text):
-            self.leave_out(NO_FRONT, line, text)
-        else:
-            self.leave_out(TORN if LIKE_ONE.match(text) else JUNK, line, text)
+    def read_apart(self, text):
+        match = None if has_two(text) else self.line.match(text)
+        return match.groups("") if match and (match[2] == "-" or " - " not in f" {match[2]} ") else ()
 
-    def time_of(self, block):
-        return self.first_of(found[1].decode(errors=reading.ESCAPED) for found in TIME.finditer(block))
+    def why_unread(self, text):
+        if not has_two(text) and BEHIND.match(text):
+            return NO_FRONT
+        return TORN if has_two(text) or LIKE_ONE.match(text) else JUNK
+
+
+def has_two(text):
+    """Whether a line is two, of which the first was cut."""
+    return text.count(ASKS) > 1 and bool(TWO.match(text))
 
 
 class Shapes(Cache):
@@ -377,15 +395,9 @@ class Json(Web):
                 return row
         return [value_at(found, paths) for paths in self.fields]
 
-    def read_apart(self, columns, at, line):
-        text = columns[-1][at]
+    def why_unread(self, text):
         is_object = isinstance(json_of(text), dict)
-        self.leave_out(NO_FIELD if is_object else TORN if text.lstrip().startswith("{") else NO_OBJECT, line, text)
-
-    def time_of(self, block):
-        end = block.rfind(b"\n", 0, reading.BLOCK >> 4) + 1 or block.find(b"\n") + 1
-        _, _, times, *_ = self.columns_of(block[:end].decode(errors=reading.ESCAPED))
-        return self.first_of(times)
+        return NO_FIELD if is_object else TORN if text.lstrip().startswith("{") else NO_OBJECT
 
 
 def json_of(line):

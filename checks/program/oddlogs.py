@@ -21,6 +21,11 @@ def line(front, page="a", second=0, agent="Mozilla", status=200):
     return f"{front} {time} {REQUEST.format(page, agent)}\n".replace(" 200 ", f" {status} ")
 
 
+def entry(user, page, second):
+    """A line of JSON."""
+    return f'{{"ts": {1795770000 + second}, "request": "POST /like/{page}", "user_id": "{user}", "status": 200}}\n'
+
+
 SYSLOG = "Nov 27 15:00:{:02} web-1 nginx[812]: "
 RFC = "<190>1 2026-11-27T15:00:{:02}.123Z web-1 nginx - - - "
 NO_FRONT, LONG = "no address, dash and user before the time", "a line of more than 1048576 bytes"
@@ -153,6 +158,37 @@ CASES = {
         {"/new": 1, "/old": 1, "/oldest": 1},
         {"ann": "/new"},
         ["taken in the order of their first times: web.log.2, web.log.1, web.log\n"],
+    ),
+    "a first line that is left out": (
+        {
+            "a.log": line("x y ann").replace("2026", "2030") + line("x - ann", "old"),
+            "b.log": line("x - ann", "new", 1) + "".join(line("x - bob", "b", second) for second in range(2, 4002)),
+        },
+        WEB,
+        {"/old": 1, "/new": 1, "/b": 4000},
+        {"ann": "/new", "bob": "/b"},
+        [f"left out 1, {NO_FRONT}: the first is line 1 of a.log, 'x y ann "],
+    ),
+    "a first row that is left out": (
+        {
+            "a.csv": "op,user,page,t\nlike,ann,x,2030-01-01,y\nlike,ann,old,2026-11-27 09:00\n",
+            "b.csv": "op,user,page,t\nlike,ann,new,2026-11-27 09:01\n" + "like,bob,b,2026-11-27 09:02\n" * 9000,
+        },
+        "--time t",
+        {"old": 1, "new": 1, "b": 9000},
+        {"ann": "new", "bob": "b"},
+        ["left out 1, more fields than the header: the first is line 2 of a.csv, "],
+    ),
+    "JSON behind lines without a time": (
+        {
+            "a.log": "starting worker process\n" * 400 + entry("ann", "old", 1)
+            + "".join(entry("bob", "b", second) for second in range(2, 3002)),
+            "b.log": entry("ann", "new", 100) + "".join(entry("eve", "b", 100 + n // 10) for n in range(3000)),
+        },
+        JSON,
+        {"/old": 1, "/new": 1, "/b": 6000},
+        {"ann": "/new", "bob": "/b", "eve": "/b"},
+        ["left out 400, not a JSON object: the first is line 1 of a.log, "],
     ),
     "a time in a name": (
         {
