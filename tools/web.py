@@ -54,7 +54,7 @@ DECODER, HALF = json.JSONDecoder(), re.compile(r"\\u[dD]")
 ESCAPE = re.compile(rb"\\(?:x([0-9a-fA-F]{2})|(.))", re.S)
 LETTERS = {b"b": b"\b", b"n": b"\n", b"r": b"\r", b"t": b"\t", b"v": b"\v"}
 
-# What servers and proxies write in place of a name, or of an address too, that they don't have.
+# What servers and proxies write in place of a name, or of an address, that they don't have.
 NAMELESS = ("-", "", '""')
 NOBODY = (*NAMELESS, "unix:", "unknown")
 
@@ -165,6 +165,22 @@ class Agents(Cache):
         return self[agent]
 
 
+class Addresses(Cache):
+    """The address that is the user's, by what a line has in its place: one or several, maybe with ports. It is empty if
+    none is known."""
+
+    def __init__(self, is_last):
+        super().__init__()
+        self.place = -1 if is_last else 0
+
+    def __missing__(self, text):
+        known = [address for address in (re.split(", ?", text) if "," in text else [text]) if address not in NOBODY]
+        address = known[self.place] if known else ""
+        ported = PORTED.fullmatch(address)
+        self[text] = ported[1].strip("[]") if ported else address
+        return self[text]
+
+
 class Web(reading.Log):
     """The requests of a web server's logs."""
 
@@ -174,7 +190,7 @@ class Web(reading.Log):
     def __init__(self, words, patterns):
         super().__init__(words)
         self.patterns, self.form = patterns, words.decode
-        self.is_last = words.forwarded == "last"
+        self.addresses = Addresses(words.forwarded == "last")
         self.status = words.status or "2xx"
         self.accepted = {str(status) for status in range(100, 600) if fits(str(status), self.status)}
         self.agents = Agents(words.agent_not) if words.agent_not else None
@@ -223,8 +239,8 @@ class Web(reading.Log):
             self.agents.make_room()
             self.drop(BOT, map(operator.not_, map(self.agents.__getitem__, agents)), numbers, lines, agents)
         users = self.users_of(addresses, users, requests, meanings.users)
-        if any(nobody in users for nobody in NOBODY):
-            self.drop(NO_USER, [user not in NOBODY for user in users], numbers, lines, requests)
+        if any(nobody in users for nobody in NAMELESS):
+            self.drop(NO_USER, [user not in NAMELESS for user in users], numbers, lines, addresses)
         return lines, numbers, users, times, requests
 
     def columns_in(self, block):
@@ -262,23 +278,12 @@ class Web(reading.Log):
         """The users: those that requests name, those that the server logged, or else the addresses."""
         if self.has_escapes and "\\" in "".join(users):
             users = [without_escapes(user) if "\\" in user else user for user in users]
-        # A text without these signs is one address without a port.
-        addresses = [
-            self.one_of(text) if "," in text or ":" in text and ("." in text or "[" in text) else text
-            for text in addresses
-        ]
         if any(nobody in users for nobody in NAMELESS):
-            users = [address if user in NAMELESS else user for address, user in zip(addresses, users)]
+            self.addresses.make_room()
+            users = [self.addresses[text] if user in NAMELESS else user for text, user in zip(addresses, users)]
         if "\0" in "".join(users):
             users = [user.replace("\0", reading.NUL) for user in users]
         return [named.get(request) or user for request, user in zip(requests, users)] if named else users
-
-    def one_of(self, several):
-        """The first or the last of several addresses, without what stands in place of one, and without a port."""
-        known = [address for address in re.split(", ?", several) if address not in NOBODY]
-        address = known[-1 if self.is_last else 0] if known else ""
-        ported = PORTED.fullmatch(address)
-        return ported[1].strip("[]") if ported else address
 
     def judge(self):
         """Stops if no request is left, or none matches the pattern of likes."""

@@ -99,6 +99,13 @@ CASES = {
         {"1.1.1.1": "/a", "1.1.1.2": "/a", "1.1.1.3": "/b", "1.1.1.4": "/a"},
         ["left out 2, no user and no address: the first is line 4, "],
     ),
+    "a user named unknown": (
+        {"a.log": line("1.1.1.1 - unknown") + line("unknown - unix:", "b") + line("unix: - -") + line("unknown - -", "c")},
+        WEB,
+        {"/a": 1, "/b": 1},
+        {"unknown": "/a", "unix:": "/b"},
+        ["left out 2, no user and no address: the first is line 3, 'unix:'\n"],
+    ),
     "two in a line": (
         {
             "a.log": line("x - ann")[:-9] + line("x - bob", "b") + "cut\n" + line("x - Eve Lee")[:-1]
