@@ -30,6 +30,14 @@ HOST = r"(?:[^ :\n\0]+|\[[^] \n]+\]):[0-9]{1,5} (?!- )"
 # An address, or the list of those that forwarded the request.
 ADDRESSES = r"([^ ,\n\0]+(?:, ?[^ ,\n\0]+)*)"
 
+# What is an address, and not a time, a level or another word of a line's front: of IPv4, of IPv6, or a host's name.
+ADDRESS = re.compile(
+    r"[0-9]{1,3}\.[0-9]{1,3}\.[0-9]{1,3}\.[0-9]{1,3}"
+    r"|\[?(?:[0-9a-fA-F:]*::[0-9a-fA-F:.]*|(?:[0-9a-fA-F]+:){6,7}[0-9a-fA-F.]+)(?:%[\w.-]+)?\]?"
+    r"|(?:[\w-]+\.)+[a-zA-Z][\w-]*\.?|localhost",
+    re.A,
+)
+
 # An address with the port of a connection, which is none of the user's.
 PORTED = re.compile(r"([0-9.]+|\[[0-9a-fA-F:.%]+\]):[0-9]{1,5}")
 
@@ -167,17 +175,18 @@ class Agents(Cache):
 
 class Addresses(Cache):
     """The address that is the user's, by what a line has in its place: one or several, maybe with ports. It is empty if
-    none is known."""
+    none is known, or what is there isn't an address."""
 
-    def __init__(self, is_last):
+    def __init__(self, form, is_last):
         super().__init__()
-        self.place = -1 if is_last else 0
+        self.form, self.place = form, -1 if is_last else 0
 
     def __missing__(self, text):
         known = [address for address in (re.split(", ?", text) if "," in text else [text]) if address not in NOBODY]
         address = known[self.place] if known else ""
         ported = PORTED.fullmatch(address)
-        self[text] = ported[1].strip("[]") if ported else address
+        address = ported[1].strip("[]") if ported else address
+        self[text] = address if self.form.fullmatch(address) else ""
         return self[text]
 
 
@@ -186,11 +195,12 @@ class Web(reading.Log):
 
     has_times = True
     has_escapes = False
+    address = re.compile(".*", re.S)  # any text, as a field has no other
 
     def __init__(self, words, patterns):
         super().__init__(words)
         self.patterns, self.form = patterns, words.decode
-        self.addresses = Addresses(words.forwarded == "last")
+        self.addresses = Addresses(self.address, words.forwarded == "last")
         self.status = words.status or "2xx"
         self.accepted = {str(status) for status in range(100, 600) if fits(str(status), self.status)}
         self.agents = Agents(words.agent_not) if words.agent_not else None
@@ -280,7 +290,11 @@ class Web(reading.Log):
             users = [without_escapes(user) if "\\" in user else user for user in users]
         if any(nobody in users for nobody in NAMELESS):
             self.addresses.make_room()
-            users = [self.addresses[text] if user in NAMELESS else user for text, user in zip(addresses, users)]
+            is_one, known = ADDRESS.fullmatch, self.addresses  # an address alone needs no look-up
+            users = [
+                user if user not in NAMELESS else text if is_one(text) else known[text]
+                for text, user in zip(addresses, users)
+            ]
         if "\0" in "".join(users):
             users = [user.replace("\0", reading.NUL) for user in users]
         return [named.get(request) or user for request, user in zip(requests, users)] if named else users
@@ -301,6 +315,7 @@ class Combined(Web):
     """The requests of a web server's logs in the combined format, or one of its kin."""
 
     has_escapes = True
+    address = ADDRESS
 
     def __init__(self, words, patterns):
         super().__init__(words, patterns)
