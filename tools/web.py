@@ -204,6 +204,8 @@ class Web(reading.Log):
         self.status = words.status or "2xx"
         self.accepted = {str(status) for status in range(100, 600) if fits(str(status), self.status)}
         self.agents = Agents(words.agent_not) if words.agent_not else None
+        self.sought = sought_by(words)
+        self.met = set()  # those of them that a line has
         self.meanings = None
 
     def begin(self):
@@ -221,11 +223,12 @@ class Web(reading.Log):
         return max(1, min(reading.MOST, len(os.sched_getaffinity(0)) - 1)) if self.stats else 1
 
     def found(self):
-        return {**super().found(), "matched": self.meanings.matched, "first": self.meanings.first}
+        return {**super().found(), "matched": self.meanings.matched, "first": self.meanings.first, "met": self.met}
 
     def join(self, found):
         super().join(found)
         self.meanings.matched.update(*(part["matched"] for part in found))
+        self.met.update(*(part["met"] for part in found))
         self.meanings.first = next(filter(None, (part["first"] for part in found)), None)
 
     def pieces_in(self, file):
@@ -237,6 +240,8 @@ class Web(reading.Log):
         addresses, users, times, requests, statuses, agents, others = self.columns_in(block)
         for at in reading.places(statuses, ""):
             self.leave_out(self.why_unread(others[at]), first + at, others[at])
+        if self.met != self.sought.keys():
+            self.met |= {name for name, texts in (("user", users), ("agent", agents)) if any(texts)} & self.sought.keys()
         meanings.make_room()
         numbers = list(map(meanings.__getitem__, requests))
         for at in reading.places(numbers, 0):
@@ -306,6 +311,7 @@ class Web(reading.Log):
         if "like" not in matched and first:
             raise Fault(f"{self}: no request matches {' or '.join(idle)}: {FRONT}, such as {shown(first)}")
         self.idle = [f"no request matches {option}: {FRONT}" for option in idle] if matched else []
+        self.idle += [why for name, why in self.sought.items() if name not in self.met]
         if not self.has_requests and not self.left_out:
             raise Fault(f"{self}: no request: the log is empty")
         super().judge()
@@ -464,6 +470,14 @@ def texts_of(values):
 def without_halves(text):
     """A text with what is no character as it is escaped in addresses."""
     return text if text.isascii() else text.encode(errors="surrogatepass").decode(errors=reading.ESCAPED)
+
+
+def sought_by(words):
+    """Fields that options need, and what is told if no line has one."""
+    field = (words.fields or {}).get("user")
+    users = {"user": f"no line has a user in the field {shown(field)} (--fields)"} if field else {}
+    agents = {"agent": "no line has an agent, so --agent-not leaves out nothing"} if words.agent_not else {}
+    return {**users, **agents}
 
 
 def fits(status, forms):

@@ -524,6 +524,27 @@ CASES = {
         {"ann": "/c"},
         ["left out 1, the agent matches --agent-not: the first is line 1, 'Googlebot/2.1'\n"],
     ),
+    "no agents": (
+        {"a.log": line("x - ann").split(' "-"')[0] + "\n"},
+        f"{WEB} --agent-not '(?i)bot'",
+        {"/a": 1},
+        {"ann": "/a"},
+        ["users 1\nno line has an agent, so --agent-not leaves out nothing\n"],
+    ),
+    "fields that no line has": (
+        {"a.log": '{"who": "ann", "remote_addr": "1.1.1.1", "request": "POST /like/a", "agent": "bot", "status": 200}\n'},
+        f"{JSON} --fields user=whom,agent=client --agent-not bot",
+        {"/a": 1},
+        {"1.1.1.1": "/a"},
+        ["no line has a user in the field 'whom' (--fields)\nno line has an agent, so --agent-not leaves out nothing\n"],
+    ),
+    "fields of the last line": (
+        {"a.log": entry("ann", "a", 1) * 3000 + entry("ann", "a", 1)[:-2] + ', "who": "bob", "agent": "bot 1"}\n'},
+        f"{JSON} --fields user=who,agent=agent,address=user_id --agent-not bot",
+        {"/a": 3000},
+        {"ann": "/a"},
+        ["users 1\nleft out 1, the agent matches --agent-not: the first is line 3001, 'bot 1'\nrefused"],
+    ),
     "since and until": (
         {
             "a.log": line("x - ann", "a") + line("x - ann", "b", 60) + line("x - ann", "c", 120)
