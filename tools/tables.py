@@ -16,9 +16,12 @@ NAMED = {"tab": "\t", "\\t": "\t"}
 # Why rows are left out.
 FEWER, MORE, SHORT = "fewer fields than the header", "more fields than the header", "fewer fields than --columns"
 LONG = f"a field of more than {rows.LONGEST} characters"
+NULS = "NULs before the first field"
 
-# A NUL as bytes of a log, and what stands in its place.
+# A NUL as bytes of a log, and what stands in its place; and at the front of a line after another, as where a log was
+# cut while it was written.
 NUL = b"\0", reading.NUL.encode()
+NUL_FRONT = b"\n" + NUL[1]
 
 
 def text_of(data):
@@ -54,15 +57,18 @@ class Header:
         return bool(self.names) and len(row) > len(self.names)
 
     def takes(self, row):
-        """Whether a row has as many fields as it should, and none that is too long."""
-        return not (self.lacks(row) or self.exceeds(row)) and max(map(len, row)) <= rows.LONGEST
+        """Whether a row has as many fields as it should, none that is too long, and no NULs before them."""
+        if self.lacks(row) or self.exceeds(row) or row[0].startswith(reading.NUL):
+            return False
+        return max(map(len, row)) <= rows.LONGEST
 
     def odd(self, lines):
         """The places of lines that have quotes, too few fields or too many: without the rest, they aren't a gap. All
-        places, if a field may be too long."""
-        if is_long(max(lines, key=len)):
+        places, if a field may be too long, or behind NULs."""
+        text = b"\n".join(lines)
+        if is_long(max(lines, key=len)) or text.startswith(NUL[1]) or NUL_FRONT in text:
             return range(len(lines))
-        shapes = b"\n".join(lines).translate(None, self.rest).split(b"\n")
+        shapes = text.translate(None, self.rest).split(b"\n")
         return [at for at, shape in enumerate(shapes) if shape != self.gap]
 
 
@@ -302,13 +308,15 @@ class Table(reading.Log):
             return FEWER if header.names else SHORT
         if row[header.places[0]] not in self.ops:
             return self.wrong_op
+        if row[0].startswith(reading.NUL):
+            return NULS
         return LONG if row[header.places[2]] else self.no_page
 
     def fault_of(self, why, row, text, header):
         """What is wrong with a row that isn't left out."""
         if why == self.wrong_op:
             return why.replace(" is ", f" is {shown(row[header.places[0]])}, ", 1)
-        if why in (self.no_page, LONG):
+        if why in (self.no_page, LONG, NULS):
             return f"{why}: {shown(text)}"
         return f"{len(row)} fields, not {len(header.names) or header.least}: {shown(text)}"
 

@@ -384,6 +384,23 @@ CASES = {
         [],
     ),
     "NULs in CSV": ({"a.csv": "op,user,page\nlike,a\0nn,\0\n"}, "", {"%00": 1}, {"a%00nn": "%00"}, []),
+    "NULs before rows": (
+        {
+            "a.csv": "user,op,page\nann,like,a\n" + "\0" * 500 + "ann,like,b\nbob,like,a\n\0\"ann\",like,b\n"
+            + "b\0b,like,\0a\n"
+        },
+        "",
+        {"a": 2, "%00a": 1},
+        {"ann": "a", "bob": "a", "b%00b": "%00a"},
+        ["left out 2, NULs before the first field: the first is line 3, '%00%00"],
+    ),
+    "NULs before the first row": (
+        {"a.csv": "\0\0ann,like,b\nann,like,a\n"},
+        "--columns 2,1,3",
+        {"a": 1},
+        {"ann": "a"},
+        ["left out 1, NULs before the first field: the first is line 1, '%00%00ann,like,b'\n"],
+    ),
     "queries": (
         {"a.log": "".join(line("x - ann", page) for n in range(4) for page in (f"a?mail={n % 2}", f"b{n}?x", "a"))},
         WEB.replace("[^? ]*", r"\S*"),
