@@ -396,7 +396,8 @@ class Json(Web):
     def columns_of(self, text):
         self.shapes.make_room()
         lines = text.split("\n")[:-1]
-        columns = list(map(texts_of, zip(*map(self.row_of, lines))))
+        values = zip(FIELDS, zip(*map(self.row_of, lines)))
+        columns = [texts_of(column, all_of if name == "address" else text_of) for name, column in values]
         if HALF.search(text):
             columns = [list(map(without_halves, column)) for column in columns]
         times, addresses, users, requests, methods, uris, statuses, agents = columns
@@ -444,7 +445,7 @@ def value_at(found, paths):
         value = found.get(first)
         for name in rest:
             value = value.get(name) if isinstance(value, dict) else None
-        if type(value := plain(value)) in (str, int, float):
+        if type(plain(value)) in (str, int, float):
             return value
     return ""
 
@@ -460,11 +461,16 @@ def text_of(value):
     return str(value) if type(value) in (str, int, float) else ""
 
 
-def texts_of(values):
+def all_of(value):
+    """A value as text, of a list all."""
+    return ", ".join(map(text_of, value)) if isinstance(value, list) else text_of(value)
+
+
+def texts_of(values, as_text):
     """Values as texts."""
     if set(map(type, values)) == {str}:
         return list(values)
-    return [value if type(value) is str else text_of(value) for value in values]
+    return [value if type(value) is str else as_text(value) for value in values]
 
 
 def without_halves(text):

@@ -517,6 +517,24 @@ CASES = {
         {"ann": "/a"},
         [],
     ),
+    "lists of addresses in JSON": (
+        {
+            "a.log": '{"remote_addr": ["10.0.0.1", "203.0.113.7", 8], "request": "POST /like/a", "status": 200}\n'
+            '{"remote_addr": ["203.0.113.8:80"], "request": "POST /like/a", "status": 200}\n'
+            '{"remote_addr": {"X": ["-", "1.1.1.1, 203.0.113.9", "-"]}, "request": "POST /like/b", "status": 200}\n'
+        },
+        f"{JSON} --forwarded last --fields address=remote_addr",
+        {"/a": 2},
+        {"8": "/a", "203.0.113.8": "/a"},
+        ["left out 1, no user and no address: the first is line 3, ''\n"],
+    ),
+    "a list of addresses within an object": (
+        {"a.log": '{"r": {"X-F": ["-", "1.1.1.1, 203.0.113.9", "-"]}, "request": "POST /like/a", "status": 200}\n'},
+        f"{JSON} --forwarded last --fields address=r.X-F",
+        {"/a": 1},
+        {"203.0.113.9": "/a"},
+        [],
+    ),
     "statuses": (
         {"a.log": line("x - ann", status=302) + line("x - ann", "b", status=201) + line("x - ann", "c", status=404)},
         WEB,
