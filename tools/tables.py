@@ -215,7 +215,7 @@ class Table(reading.Log):
                 yield first, Rows(header, lines.bare(), others)
             yield from ((first + at, text) for at, text in lines.long.items())
             first += len(lines.piece)
-        if header is None:
+        if header is None and len(self.names) == 1:
             self.places_of([], ",", 1)
 
     def header_of(self, lines, first):

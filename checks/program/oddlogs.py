@@ -303,6 +303,9 @@ CASES = {
         {"ann": "old"},
         ["kept 2, no time that can be read, so at the time before: the first is line 2 of a.csv, 'like,ann,new,28.11"],
     ),
+    "CSV with an empty file": (
+        {"a.csv": "op,user,page\nlike,ann,a\n", "b.csv": "", "c.csv": "\n\n"}, "", {"a": 1}, {"ann": "a"}, []
+    ),
     "CSV as named": (
         {"a.csv": "op,user,page\nlike,ann,new\n", "b.csv": "op,user,page\nlike,ann,old\n"},
         "",
