@@ -6,6 +6,7 @@ import itertools
 import math
 import operator
 import os
+import re
 
 import rows
 import stamps
@@ -61,6 +62,7 @@ class Log:
     """A log, or several that are taken in the order of their times. It is read again each time."""
 
     has_times = False
+    end = re.compile(b"\n")  # of a line
 
     def __init__(self, words):
         self.names, self.copies = words.log, words.copies
@@ -153,15 +155,15 @@ class Log:
             left -= len(block)
             block = block.removeprefix(codecs.BOM_UTF8) if line == 1 and not rest else block
             if is_long:
-                _, end, block = block.partition(b"\n")
-                is_long = not end
+                found = self.end.search(block)
+                block, is_long = block[found.end() :] if found else b"", not found
             lines, end, block = self.cut(block)
             if end:
                 lines += end
-                first = lines.find(b"\n")
-                if len(rest) + first > LONGEST:
+                first = self.end.search(lines)
+                if len(rest) + first.start() > LONGEST:
                     yield line, shown_of(rest)
-                    line, rest, lines = line + 1, b"", lines[first + 1 :]
+                    line, rest, lines = line + 1, b"", lines[first.end() :]
                 if rest or lines:
                     yield line, rest + lines
                     line += lines.count(b"\n")

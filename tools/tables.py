@@ -3,6 +3,7 @@
 import argparse
 import csv
 import operator
+import re
 
 import reading
 import rows
@@ -186,6 +187,8 @@ class Ops(Cache):
 
 class Table(reading.Log):
     """The requests of CSV files."""
+
+    end = re.compile(b"\r\n?|\n")
 
     def __init__(self, words, columns):
         super().__init__(words)

@@ -371,6 +371,16 @@ CASES = {
         {"b\r\nc": "x", "ann": "a", "bob": 'b"\r'},
         ["left out 2, fewer fields than the header: the first is line 4, 'like,ann'\n"],
     ),
+    "long lines that end by CR": (
+        {
+            f"{name}.csv": end.join(["op,user,page", "like,ann,a", "x" * 1200000, f"like,{name},b", "x" * 1048577] + ["like,eve,c"] * 9)
+            for name, end in (("cr", "\r"), ("crlf", "\r\n"), ("lf", "\n"))
+        },
+        "",
+        {"a": 3, "b": 3, "c": 27},
+        {"ann": "a", "cr": "b", "crlf": "b", "lf": "b", "eve": "c"},
+        [f"left out 6, {LONG}: the first is line 3 of cr.csv, 'xxx"],
+    ),
     "quotes that aren't at the front": (
         {"a.csv": 'op,user,page\nlike,a"nn,b"\nlike,"a""b, c",x\n' + 'look,"' + "\n" * 100000 + '",x\n' * 9 + "like,bob\n"},
         "",
