@@ -79,7 +79,7 @@ class Lines:
 
     def __init__(self, blocks):
         self.blocks = blocks
-        self.piece, self.long = [], {}  # and by their places: the beginnings of lines that are too long
+        self.piece, self.long = [], {}  # and by their places: lines that are too long, as they are told
         self.has_ends = False
         self.at = 0  # the place behind the last record
 
@@ -90,7 +90,7 @@ class Lines:
 
     def add(self, block):
         """Adds a block. In place of a line that is too long there is an empty one."""
-        if isinstance(block, str):
+        if isinstance(block, tuple):
             self.long[len(self.piece)] = block
             self.piece.append(b"")
         else:
@@ -216,7 +216,7 @@ class Table(reading.Log):
             if header is not None:
                 others = self.others_in(lines, first, header)
                 yield first, Rows(header, lines.bare(), others)
-            yield from ((first + at, text) for at, text in lines.long.items())
+            yield from ((first + at, piece) for at, piece in lines.long.items())
             first += len(lines.piece)
         if header is None and len(self.names) == 1:
             self.places_of([], ",", 1)

@@ -58,6 +58,9 @@ TWO = re.compile(r'^[^\n]*?\[{0}\] "[^\n]*?\[{0}\] "[^\n]*'.format(r"[0-9]{2,4}[
 # Reads JSON, in which halves of characters may be escaped.
 DECODER, HALF = json.JSONDecoder(), re.compile(r"\\u[dD]")
 
+# A character behind a backslash, which closes no quotes.
+QUOTED = re.compile(rb"\\.")
+
 # How a server escapes characters.
 ESCAPE = re.compile(rb"\\(?:x([0-9a-fA-F]{2})|(.))", re.S)
 LETTERS = {b"b": b"\b", b"n": b"\n", b"r": b"\r", b"t": b"\t", b"v": b"\v"}
@@ -349,6 +352,12 @@ class Combined(Web):
                     column[at] = ""
                 others[at] = found[0]
         return columns
+
+    def last(self, line):
+        whole = super().last(line)
+        *_, statuses, _, _ = self.columns_in(whole)
+        is_cut = QUOTED.sub(b"", line).count(b'"') % 2 == 1
+        return (TORN, reading.shown_of(line)) if is_cut and statuses[0] else whole
 
     def read_apart(self, text):
         match = None if has_two(text) else self.line.match(text)

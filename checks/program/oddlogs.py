@@ -157,6 +157,21 @@ CASES = {
         {"ann": "/c"},
         ["left out 2, a log line that can't be read: the first is line 1, 'x - ann "],
     ),
+    "a last line that is cut": (
+        {
+            "a.log": line("x - ann", agent='y \\"z')[:-1],
+            "b.log": line("x - ann", "b") + line("x - bob", agent='Google \\" bot')[:-2],
+            "c.log": line("x - eve").split('-" "')[0],
+            "d.log": 'say "x',
+        },
+        WEB,
+        {"/a": 1, "/b": 1},
+        {"ann": "/b"},
+        [
+            "left out 2, a log line that can't be read: the first is line 1 of c.log, 'x - eve ",
+            "left out 1, not of the combined format: the first is line 1 of d.log, ",
+        ],
+    ),
     "the newest first": (
         {
             "web.log": line("x - ann", "new", 7200),
