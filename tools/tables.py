@@ -223,8 +223,9 @@ class Table(reading.Log):
 
     def header_of(self, lines, first):
         """The header of a file, or without one the columns by their numbers."""
-        at, front = next((at, line) for at, line in enumerate(map(text_of, lines.piece)) if line.strip())
-        lines.piece[:at] = [b""] * at
+        texts = list(map(text_of, lines.piece))
+        at = next(at for at, text in enumerate(texts) if text.strip())
+        lines.piece[:at], front = [b""] * at, texts[at:]
         delimiter = self.delimiter or max(DELIMITERS, key=lambda one: self.fit(front, one))
         names = self.record_in(lines, first, at, delimiter) if self.has_header else []
         places = self.places_of(names, delimiter, first + at)
@@ -241,8 +242,8 @@ class Table(reading.Log):
         return [names.index(column) for column in self.columns]
 
     def fit(self, front, delimiter):
-        """How well a delimiter fits a file's first line: how many columns it finds, or whether an op, then how many
-        fields."""
+        """How well a delimiter fits the first record in a file's lines: how many columns it finds, or whether an op, then
+        how many fields."""
         fields = rows.fields_of(front, delimiter)
         if self.has_header:
             return sum(map(fields.__contains__, self.columns)), len(fields)

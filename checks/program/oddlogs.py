@@ -474,6 +474,19 @@ CASES = {
         {"ann": "/b"},
         [],
     ),
+    "a line end in the first record": (
+        {
+            "a.csv": '"Ann, or\nLee";like;/a,b,c,d\n"Ann, or\nLee";like;/b\n',
+            "b.csv": '"x\r\n, y"|like|/a\r\nbob|like|/b\r\n',
+        },
+        "--columns 2,1,3",
+        {"/a,b,c,d": 1, "/b": 2, "/a": 1},
+        {"Ann, or\nLee": "/b", "x\r\n, y": "/a", "bob": "/b"},
+        [],
+    ),
+    "a line end in the header": (
+        {"a.csv": '"a, b,\nc";op;user;page\n1;like;ann;/a\n'}, "", {"/a": 1}, {"ann": "/a"}, []
+    ),
     "a delimiter": ({"a.csv": "op:user:page\nlike:ann:a,b\n"}, "--delimiter :", {"a,b": 1}, {"ann": "a,b"}, []),
     "JSON": (
         {
