@@ -58,9 +58,6 @@ TWO = re.compile(r'^[^\n]*?\[{0}\] "[^\n]*?\[{0}\] "[^\n]*'.format(r"[0-9]{2,4}[
 # Reads JSON, in which halves of characters may be escaped.
 DECODER, HALF = json.JSONDecoder(), re.compile(r"\\u[dD]")
 
-# A character behind a backslash, which closes no quotes.
-QUOTED = re.compile(rb"\\.")
-
 # How a server escapes characters.
 ESCAPE = re.compile(rb"\\(?:x([0-9a-fA-F]{2})|(.))", re.S)
 LETTERS = {b"b": b"\b", b"n": b"\n", b"r": b"\r", b"t": b"\t", b"v": b"\v"}
@@ -198,7 +195,7 @@ class Web(reading.Log):
 
     has_times = True
     has_escapes = False
-    address = re.compile(".*", re.S)  # any text, as a field has no other
+    address = re.compile(".*", re.S)  # any text, since its field is named
 
     def __init__(self, words, patterns):
         super().__init__(words)
@@ -354,9 +351,10 @@ class Combined(Web):
         return columns
 
     def last(self, line):
+        """The piece of a last line. What is cut within quotes may be cut within a bot's name."""
         whole = super().last(line)
         *_, statuses, _, _ = self.columns_in(whole)
-        is_cut = QUOTED.sub(b"", line).count(b'"') % 2 == 1
+        is_cut = ESCAPE.sub(b"", line).count(b'"') % 2 == 1
         return (TORN, reading.shown_of(line)) if is_cut and statuses[0] else whole
 
     def read_apart(self, text):
