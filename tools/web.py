@@ -182,7 +182,7 @@ class Addresses(Cache):
         self.form, self.place = form, -1 if is_last else 0
 
     def __missing__(self, text):
-        known = [address for address in (re.split(", ?", text) if "," in text else [text]) if address not in NOBODY]
+        known = [address for address in text.replace(", ", ",").split(",") if address not in NOBODY]
         address = known[self.place] if known else ""
         ported = PORTED.fullmatch(address)
         address = ported[1].strip("[]") if ported else address
