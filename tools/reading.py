@@ -6,6 +6,7 @@ import itertools
 import math
 import operator
 import os
+import re
 
 import rows
 import stamps
@@ -45,7 +46,7 @@ TIMELESS = f"{NO_TIME}, so at the time before"
 
 
 def shown_of(line):
-    """The beginning of a line that is too long, as text."""
+    """The beginning of a line, as text."""
     return line[:100].decode(errors=ESCAPED)
 
 
@@ -61,6 +62,7 @@ class Log:
     """A log, or several that are taken in the order of their times. It is read again each time."""
 
     has_times = False
+    end = re.compile(b"\n")  # of a line
 
     def __init__(self, words):
         self.names, self.copies = words.log, words.copies
@@ -145,35 +147,39 @@ class Log:
         return block.rpartition(b"\n")
 
     def blocks(self, file):
-        """A log in pieces of whole lines, each with the number of its first. Of a line that is too long, the piece is
-        its beginning, as text."""
+        """A log in pieces of whole lines, each with the number of its first. Of a line that is left out, the piece is why
+        and its beginning, as text."""
         rest, line, is_long = b"", 1, False
         left = self.stats[self.name].st_size if self.name in self.stats and rows.is_plain(file, self.file) else math.inf
         while block := file.read(min(BLOCK, left)):
             left -= len(block)
             block = block.removeprefix(codecs.BOM_UTF8) if line == 1 and not rest else block
             if is_long:
-                _, end, block = block.partition(b"\n")
-                is_long = not end
+                found = self.end.search(block)
+                block, is_long = block[found.end() :] if found else b"", not found
             lines, end, block = self.cut(block)
             if end:
                 lines += end
-                first = lines.find(b"\n")
-                if len(rest) + first > LONGEST:
-                    yield line, shown_of(rest)
-                    line, rest, lines = line + 1, b"", lines[first + 1 :]
+                first = self.end.search(lines)
+                if len(rest) + first.start() > LONGEST:
+                    yield line, (LONG, shown_of(rest))
+                    line, rest, lines = line + 1, b"", lines[first.end() :]
                 if rest or lines:
                     yield line, rest + lines
                     line += lines.count(b"\n")
                 rest = b""
             rest += block
             if len(rest) > LONGEST:
-                yield line, shown_of(rest)
+                yield line, (LONG, shown_of(rest))
                 line, rest, is_long = line + 1, b"", True
         if 0 < left < math.inf:
             raise Fault(f"{self.name}: {CHANGED}")
         if rest:
-            yield line, rest + b"\n"
+            yield line, self.last(rest)
+
+    def last(self, line):
+        """The piece of a last line, which has no end."""
+        return line + b"\n"
 
     def first_of(self, times):
         """The first of these times that can be read."""
@@ -187,7 +193,7 @@ class Log:
             if was and not os.path.samestat(was, os.fstat(self.file.fileno())):
                 raise Fault(f"{self.name}: {CHANGED}")
             for line, piece in self.pieces_in(file):
-                if self.is_merged() and not isinstance(piece, str):
+                if self.is_merged() and not isinstance(piece, tuple):
                     least = max(least, self.time_of(piece))
                 yield least, place, line, piece
 
@@ -231,9 +237,10 @@ class Log:
         turns = itertools.cycle(range(1, self.sharers + 1))
         for least, place, line, piece in self.pieces():
             self.name = self.names[place]
-            if isinstance(piece, str):
+            if isinstance(piece, tuple):
                 if self.turn == 1:
-                    self.leave_out(LONG, line, piece)
+                    why, text = piece
+                    self.leave_out(why, line, text)
             elif next(turns) == self.turn:
                 columns = self.requests_in(line, piece)
                 if self.has_times:

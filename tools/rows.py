@@ -200,10 +200,10 @@ def reader_of(lines, delimiter):
     return csv.reader(lines, strict=True, delimiter=delimiter)
 
 
-def fields_of(line, delimiter):
-    """The fields in a line of CSV, whatever quotes it has."""
+def fields_of(lines, delimiter):
+    """The fields of the first record in lines of CSV, whatever quotes it has."""
     csv.field_size_limit(sys.maxsize)
-    return next(csv.reader([line], delimiter=delimiter), [])
+    return next(csv.reader(lines, delimiter=delimiter), [])
 
 
 def why(error):

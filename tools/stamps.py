@@ -9,12 +9,13 @@ import re
 from cache import Cache
 from command import shown
 
+# A time of ISO 8601 as a wall clock shows it.
+WALL = r"(\d{4})-(\d\d)-(\d\d)(?:[T ](\d\d):(\d\d)(?::(\d\d)(?:[.,](\d+))?)?)?"
+
 # A web server's time, such as 27/Nov/2026:09:00:01 +0000, and one of ISO 8601, such as 2026-11-27T09:00:01.250Z, whose
 # offset may have hours alone, as PostgreSQL writes it.
 SERVER = re.compile(r"(\d\d)/([A-Z][a-z]{2})/(\d{4}):(\d\d):(\d\d):(\d\d)(\.\d+)?(?: ?([+-]\d\d):?(\d\d))?")
-ISO = re.compile(
-    r"(\d{4})-(\d\d)-(\d\d)(?:[T ](\d\d):(\d\d)(?::(\d\d)(?:[.,](\d+))?)?)? ?(?:Z|UTC|([+-]\d\d)(?::?(\d\d))?)?"
-)
+ISO = re.compile(WALL + r" ?(?:Z|UTC|([+-]\d\d)(?::?(\d\d))?)?")
 # A time of a spreadsheet, such as 27.11.2026 09:00.
 DOTTED = re.compile(r"(\d\d?)\.(\d\d?)\.(\d{4})(?: (\d\d?):(\d\d)(?::(\d\d))?)?")
 MONTHS = "Jan Feb Mar Apr May Jun Jul Aug Sep Oct Nov Dec".split()
@@ -81,7 +82,8 @@ class Stamps(Cache):
 
 def moment(text):
     """A type for argparse: a time as the log's wall clock shows it."""
-    found = read(text) if ISO.fullmatch(text) else None
-    if found is None or found[0] != found[1]:
-        raise argparse.ArgumentTypeError(f"{shown(text)} is not a time such as 2026-11-27 or 2026-11-27T09:00")
+    found = read(text) if re.fullmatch(WALL, text) else None
+    if found is None:
+        such = "2026-11-27 or 2026-11-27T09:00, without a zone"
+        raise argparse.ArgumentTypeError(f"{shown(text)} is not a time such as {such}")
     return found[1]

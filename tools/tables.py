@@ -3,6 +3,7 @@
 import argparse
 import csv
 import operator
+import re
 
 import reading
 import rows
@@ -16,9 +17,12 @@ NAMED = {"tab": "\t", "\\t": "\t"}
 # Why rows are left out.
 FEWER, MORE, SHORT = "fewer fields than the header", "more fields than the header", "fewer fields than --columns"
 LONG = f"a field of more than {rows.LONGEST} characters"
+NULS = "NULs before the first field"
 
-# A NUL as bytes of a log, and what stands in its place.
+# A NUL as bytes of a log, and what stands in its place; and at the front of a line after another, as where a log was
+# cut while it was written.
 NUL = b"\0", reading.NUL.encode()
+NUL_FRONT = b"\n" + NUL[1]
 
 
 def text_of(data):
@@ -54,15 +58,18 @@ class Header:
         return bool(self.names) and len(row) > len(self.names)
 
     def takes(self, row):
-        """Whether a row has as many fields as it should, and none that is too long."""
-        return not (self.lacks(row) or self.exceeds(row)) and max(map(len, row)) <= rows.LONGEST
+        """Whether a row has as many fields as it should, none that is too long, and no NULs before them."""
+        if self.lacks(row) or self.exceeds(row) or row[0].startswith(reading.NUL):
+            return False
+        return max(map(len, row)) <= rows.LONGEST
 
     def odd(self, lines):
         """The places of lines that have quotes, too few fields or too many: without the rest, they aren't a gap. All
-        places, if a field may be too long."""
-        if is_long(max(lines, key=len)):
+        places, if a field may be too long, or behind NULs."""
+        text = b"\n".join(lines)
+        if is_long(max(lines, key=len)) or text.startswith(NUL[1]) or NUL_FRONT in text:
             return range(len(lines))
-        shapes = b"\n".join(lines).translate(None, self.rest).split(b"\n")
+        shapes = text.translate(None, self.rest).split(b"\n")
         return [at for at, shape in enumerate(shapes) if shape != self.gap]
 
 
@@ -72,7 +79,7 @@ class Lines:
 
     def __init__(self, blocks):
         self.blocks = blocks
-        self.piece, self.long = [], {}  # and by their places: the beginnings of lines that are too long
+        self.piece, self.long = [], {}  # and by their places: lines that are too long, as they are told
         self.has_ends = False
         self.at = 0  # the place behind the last record
 
@@ -83,7 +90,7 @@ class Lines:
 
     def add(self, block):
         """Adds a block. In place of a line that is too long there is an empty one."""
-        if isinstance(block, str):
+        if isinstance(block, tuple):
             self.long[len(self.piece)] = block
             self.piece.append(b"")
         else:
@@ -181,6 +188,8 @@ class Ops(Cache):
 class Table(reading.Log):
     """The requests of CSV files."""
 
+    end = re.compile(b"\r\n?|\n")
+
     def __init__(self, words, columns):
         super().__init__(words)
         self.op, _, self.page = columns
@@ -207,15 +216,16 @@ class Table(reading.Log):
             if header is not None:
                 others = self.others_in(lines, first, header)
                 yield first, Rows(header, lines.bare(), others)
-            yield from ((first + at, text) for at, text in lines.long.items())
+            yield from ((first + at, piece) for at, piece in lines.long.items())
             first += len(lines.piece)
-        if header is None:
+        if header is None and len(self.names) == 1:
             self.places_of([], ",", 1)
 
     def header_of(self, lines, first):
         """The header of a file, or without one the columns by their numbers."""
-        at, front = next((at, line) for at, line in enumerate(map(text_of, lines.piece)) if line.strip())
-        lines.piece[:at] = [b""] * at
+        texts = list(map(text_of, lines.piece))
+        at = next(at for at, text in enumerate(texts) if text.strip())
+        lines.piece[:at], front = [b""] * at, texts[at:]
         delimiter = self.delimiter or max(DELIMITERS, key=lambda one: self.fit(front, one))
         names = self.record_in(lines, first, at, delimiter) if self.has_header else []
         places = self.places_of(names, delimiter, first + at)
@@ -232,8 +242,8 @@ class Table(reading.Log):
         return [names.index(column) for column in self.columns]
 
     def fit(self, front, delimiter):
-        """How well a delimiter fits a file's first line: how many columns it finds, or whether an op, then how many
-        fields."""
+        """How well a delimiter fits the first record in a file's lines: how many columns it finds, or whether an op, then
+        how many fields."""
         fields = rows.fields_of(front, delimiter)
         if self.has_header:
             return sum(map(fields.__contains__, self.columns)), len(fields)
@@ -302,20 +312,22 @@ class Table(reading.Log):
             return FEWER if header.names else SHORT
         if row[header.places[0]] not in self.ops:
             return self.wrong_op
+        if row[0].startswith(reading.NUL):
+            return NULS
         return LONG if row[header.places[2]] else self.no_page
 
     def fault_of(self, why, row, text, header):
         """What is wrong with a row that isn't left out."""
         if why == self.wrong_op:
             return why.replace(" is ", f" is {shown(row[header.places[0]])}, ", 1)
-        if why in (self.no_page, LONG):
+        if why in (self.no_page, LONG, NULS):
             return f"{why}: {shown(text)}"
         return f"{len(row)} fields, not {len(header.names) or header.least}: {shown(text)}"
 
     def time_of(self, piece):
-        place = piece.header.places[3]
+        header = piece.header
         found = map(piece.row, range(len(piece.lines)))
-        return self.first_of(row[place] for row in found if len(row) > place)
+        return self.first_of(row[header.places[3]] for row in found if header.takes(row))
 
 
 def delimiter(text):

@@ -3,6 +3,7 @@
 import argparse
 import itertools
 import json
+import math
 import operator
 import os
 import re
@@ -29,6 +30,14 @@ HOST = r"(?:[^ :\n\0]+|\[[^] \n]+\]):[0-9]{1,5} (?!- )"
 # An address, or the list of those that forwarded the request.
 ADDRESSES = r"([^ ,\n\0]+(?:, ?[^ ,\n\0]+)*)"
 
+# What is an address, and not a time, a level or another word of a line's front: of IPv4, of IPv6, or a host's name.
+ADDRESS = re.compile(
+    r"[0-9]{1,3}\.[0-9]{1,3}\.[0-9]{1,3}\.[0-9]{1,3}"
+    r"|\[?(?:[0-9a-fA-F:]*::[0-9a-fA-F:.]*|(?:[0-9a-fA-F]+:){6,7}[0-9a-fA-F.]+)(?:%[\w.-]+)?\]?"
+    r"|(?:[\w-]+\.)+[a-zA-Z][\w-]*\.?|localhost",
+    re.A,
+)
+
 # An address with the port of a connection, which is none of the user's.
 PORTED = re.compile(r"([0-9.]+|\[[0-9a-fA-F:.%]+\]):[0-9]{1,5}")
 
@@ -37,8 +46,7 @@ PORTED = re.compile(r"([0-9.]+|\[[0-9a-fA-F:.%]+\]):[0-9]{1,5}")
 ASKED = r'\[([^][\n]{0,99})\] "([^"\\\n]*(?:\\.[^"\\\n]*)*)" ([0-9]{3}) '
 AGENT = r'(?:[^ \n]+ "[^"\\\n]*(?:\\.[^"\\\n]*)*" "([^"\\\n]*(?:\\.[^"\\\n]*)*)")?'
 
-# A time in a piece of a log, before a request. A line that is right from its time on, and one that looks like that.
-TIME = re.compile(rb'\[([0-9][^][\n]{0,98})\] "')
+# A line that is right from its time on, and one that looks like that.
 BEHIND = re.compile(rf'[^"\n]*? {ASKED}')
 LIKE_ONE = re.compile(r'[^ \n]+ [^\n]*\[[^][\n]{0,99}\] "')
 
@@ -54,7 +62,7 @@ DECODER, HALF = json.JSONDecoder(), re.compile(r"\\u[dD]")
 ESCAPE = re.compile(rb"\\(?:x([0-9a-fA-F]{2})|(.))", re.S)
 LETTERS = {b"b": b"\b", b"n": b"\n", b"r": b"\r", b"t": b"\t", b"v": b"\v"}
 
-# What servers and proxies write in place of a name, or of an address too, that they don't have.
+# What servers and proxies write in place of a name, or of an address, that they don't have.
 NAMELESS = ("-", "", '""')
 NOBODY = (*NAMELESS, "unix:", "unknown")
 
@@ -165,19 +173,39 @@ class Agents(Cache):
         return self[agent]
 
 
+class Addresses(Cache):
+    """The address that is the user's, by what a line has in its place: one or several, maybe with ports. It is empty if
+    none is known, or what is there isn't an address."""
+
+    def __init__(self, form, is_last):
+        super().__init__()
+        self.form, self.place = form, -1 if is_last else 0
+
+    def __missing__(self, text):
+        known = [address for address in text.replace(", ", ",").split(",") if address not in NOBODY]
+        address = known[self.place] if known else ""
+        ported = PORTED.fullmatch(address)
+        address = ported[1].strip("[]") if ported else address
+        self[text] = address if self.form.fullmatch(address) else ""
+        return self[text]
+
+
 class Web(reading.Log):
     """The requests of a web server's logs."""
 
     has_times = True
     has_escapes = False
+    address = re.compile(".*", re.S)  # any text, since its field is named
 
     def __init__(self, words, patterns):
         super().__init__(words)
         self.patterns, self.form = patterns, words.decode
-        self.is_last = words.forwarded == "last"
+        self.addresses = Addresses(self.address, words.forwarded == "last")
         self.status = words.status or "2xx"
         self.accepted = {str(status) for status in range(100, 600) if fits(str(status), self.status)}
         self.agents = Agents(words.agent_not) if words.agent_not else None
+        self.sought = sought_by(words)
+        self.met = set()  # those of them that a line has
         self.meanings = None
 
     def begin(self):
@@ -195,11 +223,12 @@ class Web(reading.Log):
         return max(1, min(reading.MOST, len(os.sched_getaffinity(0)) - 1)) if self.stats else 1
 
     def found(self):
-        return {**super().found(), "matched": self.meanings.matched, "first": self.meanings.first}
+        return {**super().found(), "matched": self.meanings.matched, "first": self.meanings.first, "met": self.met}
 
     def join(self, found):
         super().join(found)
         self.meanings.matched.update(*(part["matched"] for part in found))
+        self.met.update(*(part["met"] for part in found))
         self.meanings.first = next(filter(None, (part["first"] for part in found)), None)
 
     def pieces_in(self, file):
@@ -208,11 +237,11 @@ class Web(reading.Log):
     def requests_in(self, first, block):
         """The requests of a piece of the log, whose lines begin with the first."""
         meanings = self.meanings
-        addresses, users, times, requests, statuses, agents, _ = columns = self.columns_of(
-            block.decode(errors=reading.ESCAPED)
-        )
+        addresses, users, times, requests, statuses, agents, others = self.columns_in(block)
         for at in reading.places(statuses, ""):
-            self.read_apart(columns, at, first + at)
+            self.leave_out(self.why_unread(others[at]), first + at, others[at])
+        if self.met != self.sought.keys():
+            self.met |= {name for name, texts in (("user", users), ("agent", agents)) if any(texts)} & self.sought.keys()
         meanings.make_room()
         numbers = list(map(meanings.__getitem__, requests))
         for at in reading.places(numbers, 0):
@@ -225,40 +254,55 @@ class Web(reading.Log):
             self.agents.make_room()
             self.drop(BOT, map(operator.not_, map(self.agents.__getitem__, agents)), numbers, lines, agents)
         users = self.users_of(addresses, users, requests, meanings.users)
-        if any(nobody in users for nobody in NOBODY):
-            self.drop(NO_USER, [user not in NOBODY for user in users], numbers, lines, requests)
+        if any(nobody in users for nobody in NAMELESS):
+            self.drop(NO_USER, [user not in NAMELESS for user in users], numbers, lines, addresses)
         return lines, numbers, users, times, requests
 
+    def columns_in(self, block):
+        """The lines of a piece: addresses, users, times, requests, statuses, agents, and lines that can't be read. All
+        else is then empty."""
+        columns = self.columns_of(block.decode(errors=reading.ESCAPED))
+        *_, statuses, _, others = columns
+        for at in reading.places(statuses, ""):
+            for column, value in zip(columns, self.read_apart(others[at])):
+                column[at] = value
+        return columns
+
     def columns_of(self, text):
-        """The lines of a text: addresses, users, times, requests, statuses, agents, and lines that are none of these.
-        All else is then empty."""
+        """These of a text, where lines that have to be read apart aren't read yet."""
         raise NotImplementedError
 
-    def read_apart(self, columns, at, line):
-        """Reads a line that is none of these, or leaves it out."""
+    def read_apart(self, text):
+        """What a line that has to be read apart has in each column, or nothing."""
+        return ()
+
+    def why_unread(self, text):
+        """Why a line can't be read."""
         raise NotImplementedError
+
+    def time_of(self, block):
+        """The first time in a piece that a line which is read has. Mostly it is the first line."""
+        begin, found = 0, -math.inf
+        while begin < len(block) and found == -math.inf:
+            end = block.find(b"\n", 2 * begin) + 1 or len(block)
+            _, _, times, *_ = self.columns_in(block[begin:end])
+            begin, found = end, self.first_of(times)
+        return found
 
     def users_of(self, addresses, users, requests, named):
         """The users: those that requests name, those that the server logged, or else the addresses."""
         if self.has_escapes and "\\" in "".join(users):
             users = [without_escapes(user) if "\\" in user else user for user in users]
-        # A text without these signs is one address without a port.
-        addresses = [
-            self.one_of(text) if "," in text or ":" in text and ("." in text or "[" in text) else text
-            for text in addresses
-        ]
         if any(nobody in users for nobody in NAMELESS):
-            users = [address if user in NAMELESS else user for address, user in zip(addresses, users)]
+            self.addresses.make_room()
+            is_one, known = ADDRESS.fullmatch, self.addresses  # an address alone needs no look-up
+            users = [
+                user if user not in NAMELESS else text if is_one(text) else known[text]
+                for text, user in zip(addresses, users)
+            ]
         if "\0" in "".join(users):
             users = [user.replace("\0", reading.NUL) for user in users]
         return [named.get(request) or user for request, user in zip(requests, users)] if named else users
-
-    def one_of(self, several):
-        """The first or the last of several addresses, without what stands in place of one, and without a port."""
-        known = [address for address in re.split(", ?", several) if address not in NOBODY]
-        address = known[-1 if self.is_last else 0] if known else ""
-        ported = PORTED.fullmatch(address)
-        return ported[1].strip("[]") if ported else address
 
     def judge(self):
         """Stops if no request is left, or none matches the pattern of likes."""
@@ -267,6 +311,7 @@ class Web(reading.Log):
         if "like" not in matched and first:
             raise Fault(f"{self}: no request matches {' or '.join(idle)}: {FRONT}, such as {shown(first)}")
         self.idle = [f"no request matches {option}: {FRONT}" for option in idle] if matched else []
+        self.idle += [why for name, why in self.sought.items() if name not in self.met]
         if not self.has_requests and not self.left_out:
             raise Fault(f"{self}: no request: the log is empty")
         super().judge()
@@ -276,6 +321,7 @@ class Combined(Web):
     """The requests of a web server's logs in the combined format, or one of its kin."""
 
     has_escapes = True
+    address = ADDRESS
 
     def __init__(self, words, patterns):
         super().__init__(words, patterns)
@@ -304,21 +350,26 @@ class Combined(Web):
                 others[at] = found[0]
         return columns
 
-    def read_apart(self, columns, at, line):
-        text = columns[-1][at]
-        match = self.line.match(text)
-        if text.count(ASKS) > 1 and TWO.match(text):
-            self.leave_out(TORN, line, text)
-        elif match and (match[2] == "-" or " - " not in f" {match[2]} "):
-            for column, value in zip(columns, match.groups("")):
-                column[at] = value
-        elif BEHIND.match(text):
-            self.leave_out(NO_FRONT, line, text)
-        else:
-            self.leave_out(TORN if LIKE_ONE.match(text) else JUNK, line, text)
+    def last(self, line):
+        """The piece of a last line. What is cut within quotes may be cut within a bot's name."""
+        whole = super().last(line)
+        *_, statuses, _, _ = self.columns_in(whole)
+        is_cut = ESCAPE.sub(b"", line).count(b'"') % 2 == 1
+        return (TORN, reading.shown_of(line)) if is_cut and statuses[0] else whole
 
-    def time_of(self, block):
-        return self.first_of(found[1].decode(errors=reading.ESCAPED) for found in TIME.finditer(block))
+    def read_apart(self, text):
+        match = None if has_two(text) else self.line.match(text)
+        return match.groups("") if match and (match[2] == "-" or " - " not in f" {match[2]} ") else ()
+
+    def why_unread(self, text):
+        if not has_two(text) and BEHIND.match(text):
+            return NO_FRONT
+        return TORN if has_two(text) or LIKE_ONE.match(text) else JUNK
+
+
+def has_two(text):
+    """Whether a line is two, of which the first was cut."""
+    return text.count(ASKS) > 1 and bool(TWO.match(text))
 
 
 class Shapes(Cache):
@@ -352,7 +403,8 @@ class Json(Web):
     def columns_of(self, text):
         self.shapes.make_room()
         lines = text.split("\n")[:-1]
-        columns = list(map(texts_of, zip(*map(self.row_of, lines))))
+        values = zip(FIELDS, zip(*map(self.row_of, lines)))
+        columns = [texts_of(column, all_of if name == "address" else text_of) for name, column in values]
         if HALF.search(text):
             columns = [list(map(without_halves, column)) for column in columns]
         times, addresses, users, requests, methods, uris, statuses, agents = columns
@@ -377,15 +429,9 @@ class Json(Web):
                 return row
         return [value_at(found, paths) for paths in self.fields]
 
-    def read_apart(self, columns, at, line):
-        text = columns[-1][at]
+    def why_unread(self, text):
         is_object = isinstance(json_of(text), dict)
-        self.leave_out(NO_FIELD if is_object else TORN if text.lstrip().startswith("{") else NO_OBJECT, line, text)
-
-    def time_of(self, block):
-        end = block.rfind(b"\n", 0, reading.BLOCK >> 4) + 1 or block.find(b"\n") + 1
-        _, _, times, *_ = self.columns_of(block[:end].decode(errors=reading.ESCAPED))
-        return self.first_of(times)
+        return NO_FIELD if is_object else TORN if text.lstrip().startswith("{") else NO_OBJECT
 
 
 def json_of(line):
@@ -406,7 +452,7 @@ def value_at(found, paths):
         value = found.get(first)
         for name in rest:
             value = value.get(name) if isinstance(value, dict) else None
-        if type(value := plain(value)) in (str, int, float):
+        if type(plain(value)) in (str, int, float):
             return value
     return ""
 
@@ -422,16 +468,29 @@ def text_of(value):
     return str(value) if type(value) in (str, int, float) else ""
 
 
-def texts_of(values):
+def all_of(value):
+    """A value as text, of a list all."""
+    return ", ".join(map(text_of, value)) if isinstance(value, list) else text_of(value)
+
+
+def texts_of(values, as_text):
     """Values as texts."""
     if set(map(type, values)) == {str}:
         return list(values)
-    return [value if type(value) is str else text_of(value) for value in values]
+    return [value if type(value) is str else as_text(value) for value in values]
 
 
 def without_halves(text):
     """A text with what is no character as it is escaped in addresses."""
     return text if text.isascii() else text.encode(errors="surrogatepass").decode(errors=reading.ESCAPED)
+
+
+def sought_by(words):
+    """Fields that options need, and what is told if no line has one."""
+    field = (words.fields or {}).get("user")
+    users = {"user": f"no line has a user in the field {shown(field)} (--fields)"} if field else {}
+    agents = {"agent": "no line has an agent, so --agent-not leaves out nothing"} if words.agent_not else {}
+    return {**users, **agents}
 
 
 def fits(status, forms):

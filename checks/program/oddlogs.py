@@ -21,6 +21,11 @@ def line(front, page="a", second=0, agent="Mozilla", status=200):
     return f"{front} {time} {REQUEST.format(page, agent)}\n".replace(" 200 ", f" {status} ")
 
 
+def entry(user, page, second):
+    """A line of JSON."""
+    return f'{{"ts": {1795770000 + second}, "request": "POST /like/{page}", "user_id": "{user}", "status": 200}}\n'
+
+
 SYSLOG = "Nov 27 15:00:{:02} web-1 nginx[812]: "
 RFC = "<190>1 2026-11-27T15:00:{:02}.123Z web-1 nginx - - - "
 NO_FRONT, LONG = "no address, dash and user before the time", "a line of more than 1048576 bytes"
@@ -94,6 +99,54 @@ CASES = {
         {"1.1.1.1": "/a", "1.1.1.2": "/a", "1.1.1.3": "/b", "1.1.1.4": "/a"},
         ["left out 2, no user and no address: the first is line 4, "],
     ),
+    "a user named unknown": (
+        {"a.log": line("1.1.1.1 - unknown") + line("unknown - unix:", "b") + line("unix: - -") + line("unknown - -", "c")},
+        WEB,
+        {"/a": 1, "/b": 1},
+        {"unknown": "/a", "unix:": "/b"},
+        ["left out 2, no user and no address: the first is line 3, 'unix:'\n"],
+    ),
+    "fronts that look like addresses": (
+        {
+            "a.log": "".join(
+                line(f"{front} - -") for front in (
+                    "15:00:01, 192.0.2.1", "2026-11-27T15:00:01Z,192.0.2.1", "2026-11-27, 192.0.2.1", "INFO, 192.0.2.1",
+                    "INFO", "15:00:01", "15:00:01.123", "1733000000.123", "1733000000", '"192.0.2.1, 10.0.0.1"',
+                    "unknown:80", "web-1,192.0.2.1", "for=192.0.2.1", "192.0.2", "2026-11-27T15:00:01.123Z",
+                )
+            ) + line("INFO, 192.0.2.1 - ann", "b")
+        },
+        WEB,
+        {"/b": 1},
+        {"ann": "/b"},
+        ["left out 15, no user and no address: the first is line 1, '15:00:01, 192.0.2.1'\n"],
+    ),
+    "a front before forwarded last": (
+        {"a.log": line("15:00:01, 192.0.2.1 - -") + line("x,h.org - -") + line("x, localhost - -")},
+        f"{WEB} --forwarded last",
+        {"/a": 3},
+        {"192.0.2.1": "/a", "h.org": "/a", "localhost": "/a"},
+        [],
+    ),
+    "addresses": (
+        {
+            "a.log": "".join(
+                line(f"{address} - -") for address in (
+                    "192.0.2.1", "2001:db8::7", "::1", "::ffff:192.0.2.1", "2001:db8:1:2:3:4:5:6", "fe80::1%eth0",
+                    "0:0:0:0:0:ffff:192.0.2.1", "[2001:db8::8]", "host-1.example.org", "h_2.example.org.", "localhost",
+                    "1.2.0.192.in-addr.arpa",
+                )
+            )
+        },
+        WEB,
+        {"/a": 12},
+        dict.fromkeys(
+            "192.0.2.1 2001:db8::7 ::1 ::ffff:192.0.2.1 2001:db8:1:2:3:4:5:6 fe80::1%eth0 0:0:0:0:0:ffff:192.0.2.1 "
+            "[2001:db8::8] host-1.example.org h_2.example.org. localhost 1.2.0.192.in-addr.arpa".split(),
+            "/a",
+        ),
+        [],
+    ),
     "two in a line": (
         {
             "a.log": line("x - ann")[:-9] + line("x - bob", "b") + "cut\n" + line("x - Eve Lee")[:-1]
@@ -103,6 +156,21 @@ CASES = {
         {"/c": 1},
         {"ann": "/c"},
         ["left out 2, a log line that can't be read: the first is line 1, 'x - ann "],
+    ),
+    "a last line that is cut": (
+        {
+            "a.log": line("x - ann", agent='y \\"z')[:-1],
+            "b.log": line("x - ann", "b") + line("x - bob", agent='Google \\" bot')[:-2],
+            "c.log": line("x - eve").split('-" "')[0],
+            "d.log": 'say "x',
+        },
+        WEB,
+        {"/a": 1, "/b": 1},
+        {"ann": "/b"},
+        [
+            "left out 2, a log line that can't be read: the first is line 1 of c.log, 'x - eve ",
+            "left out 1, not of the combined format: the first is line 1 of d.log, ",
+        ],
     ),
     "the newest first": (
         {
@@ -153,6 +221,37 @@ CASES = {
         {"/new": 1, "/old": 1, "/oldest": 1},
         {"ann": "/new"},
         ["taken in the order of their first times: web.log.2, web.log.1, web.log\n"],
+    ),
+    "a first line that is left out": (
+        {
+            "a.log": line("x y ann").replace("2026", "2030") + line("x - ann", "old"),
+            "b.log": line("x - ann", "new", 1) + "".join(line("x - bob", "b", second) for second in range(2, 4002)),
+        },
+        WEB,
+        {"/old": 1, "/new": 1, "/b": 4000},
+        {"ann": "/new", "bob": "/b"},
+        [f"left out 1, {NO_FRONT}: the first is line 1 of a.log, 'x y ann "],
+    ),
+    "a first row that is left out": (
+        {
+            "a.csv": "op,user,page,t\nlike,ann,x,2030-01-01,y\nlike,ann,old,2026-11-27 09:00\n",
+            "b.csv": "op,user,page,t\nlike,ann,new,2026-11-27 09:01\n" + "like,bob,b,2026-11-27 09:02\n" * 9000,
+        },
+        "--time t",
+        {"old": 1, "new": 1, "b": 9000},
+        {"ann": "new", "bob": "b"},
+        ["left out 1, more fields than the header: the first is line 2 of a.csv, "],
+    ),
+    "JSON behind lines without a time": (
+        {
+            "a.log": "starting worker process\n" * 400 + entry("ann", "old", 1)
+            + "".join(entry("bob", "b", second) for second in range(2, 3002)),
+            "b.log": entry("ann", "new", 100) + "".join(entry("eve", "b", 100 + n // 10) for n in range(3000)),
+        },
+        JSON,
+        {"/old": 1, "/new": 1, "/b": 6000},
+        {"ann": "/new", "bob": "/b", "eve": "/b"},
+        ["left out 400, not a JSON object: the first is line 1 of a.log, "],
     ),
     "a time in a name": (
         {
@@ -219,6 +318,9 @@ CASES = {
         {"ann": "old"},
         ["kept 2, no time that can be read, so at the time before: the first is line 2 of a.csv, 'like,ann,new,28.11"],
     ),
+    "CSV with an empty file": (
+        {"a.csv": "op,user,page\nlike,ann,a\n", "b.csv": "", "c.csv": "\n\n"}, "", {"a": 1}, {"ann": "a"}, []
+    ),
     "CSV as named": (
         {"a.csv": "op,user,page\nlike,ann,new\n", "b.csv": "op,user,page\nlike,ann,old\n"},
         "",
@@ -284,6 +386,16 @@ CASES = {
         {"b\r\nc": "x", "ann": "a", "bob": 'b"\r'},
         ["left out 2, fewer fields than the header: the first is line 4, 'like,ann'\n"],
     ),
+    "long lines that end by CR": (
+        {
+            f"{name}.csv": end.join(["op,user,page", "like,ann,a", "x" * 1200000, f"like,{name},b", "x" * 1048577] + ["like,eve,c"] * 9)
+            for name, end in (("cr", "\r"), ("crlf", "\r\n"), ("lf", "\n"))
+        },
+        "",
+        {"a": 3, "b": 3, "c": 27},
+        {"ann": "a", "cr": "b", "crlf": "b", "lf": "b", "eve": "c"},
+        [f"left out 6, {LONG}: the first is line 3 of cr.csv, 'xxx"],
+    ),
     "quotes that aren't at the front": (
         {"a.csv": 'op,user,page\nlike,a"nn,b"\nlike,"a""b, c",x\n' + 'look,"' + "\n" * 100000 + '",x\n' * 9 + "like,bob\n"},
         "",
@@ -300,6 +412,23 @@ CASES = {
         [],
     ),
     "NULs in CSV": ({"a.csv": "op,user,page\nlike,a\0nn,\0\n"}, "", {"%00": 1}, {"a%00nn": "%00"}, []),
+    "NULs before rows": (
+        {
+            "a.csv": "user,op,page\nann,like,a\n" + "\0" * 500 + "ann,like,b\nbob,like,a\n\0\"ann\",like,b\n"
+            + "b\0b,like,\0a\n"
+        },
+        "",
+        {"a": 2, "%00a": 1},
+        {"ann": "a", "bob": "a", "b%00b": "%00a"},
+        ["left out 2, NULs before the first field: the first is line 3, '%00%00"],
+    ),
+    "NULs before the first row": (
+        {"a.csv": "\0\0ann,like,b\nann,like,a\n"},
+        "--columns 2,1,3",
+        {"a": 1},
+        {"ann": "a"},
+        ["left out 1, NULs before the first field: the first is line 1, '%00%00ann,like,b'\n"],
+    ),
     "queries": (
         {"a.log": "".join(line("x - ann", page) for n in range(4) for page in (f"a?mail={n % 2}", f"b{n}?x", "a"))},
         WEB.replace("[^? ]*", r"\S*"),
@@ -344,6 +473,19 @@ CASES = {
         {"/a,b,c,d,e": 1, "/b": 1},
         {"ann": "/b"},
         [],
+    ),
+    "a line end in the first record": (
+        {
+            "a.csv": '"Ann, or\nLee";like;/a,b,c,d\n"Ann, or\nLee";like;/b\n',
+            "b.csv": '"x\r\n, y"|like|/a\r\nbob|like|/b\r\n',
+        },
+        "--columns 2,1,3",
+        {"/a,b,c,d": 1, "/b": 2, "/a": 1},
+        {"Ann, or\nLee": "/b", "x\r\n, y": "/a", "bob": "/b"},
+        [],
+    ),
+    "a line end in the header": (
+        {"a.csv": '"a, b,\nc";op;user;page\n1;like;ann;/a\n'}, "", {"/a": 1}, {"ann": "/a"}, []
     ),
     "a delimiter": ({"a.csv": "op:user:page\nlike:ann:a,b\n"}, "--delimiter :", {"a,b": 1}, {"ann": "a,b"}, []),
     "JSON": (
@@ -416,6 +558,24 @@ CASES = {
         {"ann": "/a"},
         [],
     ),
+    "lists of addresses in JSON": (
+        {
+            "a.log": '{"remote_addr": ["10.0.0.1", "203.0.113.7", 8], "request": "POST /like/a", "status": 200}\n'
+            '{"remote_addr": ["203.0.113.8:80"], "request": "POST /like/a", "status": 200}\n'
+            '{"remote_addr": {"X": ["-", "1.1.1.1, 203.0.113.9", "-"]}, "request": "POST /like/b", "status": 200}\n'
+        },
+        f"{JSON} --forwarded last --fields address=remote_addr",
+        {"/a": 2},
+        {"8": "/a", "203.0.113.8": "/a"},
+        ["left out 1, no user and no address: the first is line 3, ''\n"],
+    ),
+    "a list of addresses within an object": (
+        {"a.log": '{"r": {"X-F": ["-", "1.1.1.1, 203.0.113.9", "-"]}, "request": "POST /like/a", "status": 200}\n'},
+        f"{JSON} --forwarded last --fields address=r.X-F",
+        {"/a": 1},
+        {"203.0.113.9": "/a"},
+        [],
+    ),
     "statuses": (
         {"a.log": line("x - ann", status=302) + line("x - ann", "b", status=201) + line("x - ann", "c", status=404)},
         WEB,
@@ -439,6 +599,27 @@ CASES = {
         {"/b": 1, "/c": 1},
         {"ann": "/c"},
         ["left out 1, the agent matches --agent-not: the first is line 1, 'Googlebot/2.1'\n"],
+    ),
+    "no agents": (
+        {"a.log": line("x - ann").split(' "-"')[0] + "\n"},
+        f"{WEB} --agent-not '(?i)bot'",
+        {"/a": 1},
+        {"ann": "/a"},
+        ["users 1\nno line has an agent, so --agent-not leaves out nothing\n"],
+    ),
+    "fields that no line has": (
+        {"a.log": '{"who": "ann", "remote_addr": "1.1.1.1", "request": "POST /like/a", "agent": "bot", "status": 200}\n'},
+        f"{JSON} --fields user=whom,agent=client --agent-not bot",
+        {"/a": 1},
+        {"1.1.1.1": "/a"},
+        ["no line has a user in the field 'whom' (--fields)\nno line has an agent, so --agent-not leaves out nothing\n"],
+    ),
+    "fields of the last line": (
+        {"a.log": entry("ann", "a", 1) * 3000 + entry("ann", "a", 1)[:-2] + ', "who": "bob", "agent": "bot 1"}\n'},
+        f"{JSON} --fields user=who,agent=agent,address=user_id --agent-not bot",
+        {"/a": 3000},
+        {"ann": "/a"},
+        ["users 1\nleft out 1, the agent matches --agent-not: the first is line 3001, 'bot 1'\nrefused"],
     ),
     "since and until": (
         {

@@ -225,6 +225,7 @@ class Log:
                 whose = ("", "-", "-") if kind == NOBODY else self.all_users[user]
                 agent = BOT if self.has_bots and number % 50 == 0 else AGENTS[number % 3]
                 file.write(f"{self.form.line(whose, time, request, status, agent)}\n")
+                request = whose[1] if kind == NOBODY else request
             if kind in ("like", "look"):
                 self.count(kind, user, page)
             else:
