@@ -38,6 +38,9 @@ ADDRESS = re.compile(
     re.A,
 )
 
+# What stands alone in the place of an address, such as its hash or a host's short name: a word, but no date.
+WORD = re.compile(r"(?![0-9]{4}-[0-9]{2}-[0-9]{2}\Z)[\w-]+", re.A)
+
 # An address with the port of a connection, which is none of the user's.
 PORTED = re.compile(r"([0-9.]+|\[[0-9a-fA-F:.%]+\]):[0-9]{1,5}")
 
@@ -182,11 +185,13 @@ class Addresses(Cache):
         self.form, self.place = form, -1 if is_last else 0
 
     def __missing__(self, text):
-        known = [address for address in text.replace(", ", ",").split(",") if address not in NOBODY]
+        several = text.replace(", ", ",").split(",")
+        known = [address for address in several if address not in NOBODY]
         address = known[self.place] if known else ""
         ported = PORTED.fullmatch(address)
         address = ported[1].strip("[]") if ported else address
-        self[text] = address if self.form.fullmatch(address) else ""
+        is_word = len(several) == 1 and WORD.fullmatch(address)
+        self[text] = address if is_word or self.form.fullmatch(address) else ""
         return self[text]
 
 
@@ -241,7 +246,8 @@ class Web(reading.Log):
         for at in reading.places(statuses, ""):
             self.leave_out(self.why_unread(others[at]), first + at, others[at])
         if self.met != self.sought.keys():
-            self.met |= {name for name, texts in (("user", users), ("agent", agents)) if any(texts)} & self.sought.keys()
+            met = {name for name, texts in (("user", users), ("agent", agents)) if any(texts)}
+            self.met |= met & self.sought.keys()
         meanings.make_room()
         numbers = list(map(meanings.__getitem__, requests))
         for at in reading.places(numbers, 0):

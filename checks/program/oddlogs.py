@@ -111,15 +111,15 @@ CASES = {
             "a.log": "".join(
                 line(f"{front} - -") for front in (
                     "15:00:01, 192.0.2.1", "2026-11-27T15:00:01Z,192.0.2.1", "2026-11-27, 192.0.2.1", "INFO, 192.0.2.1",
-                    "INFO", "15:00:01", "15:00:01.123", "1733000000.123", "1733000000", '"192.0.2.1, 10.0.0.1"',
-                    "unknown:80", "web-1,192.0.2.1", "for=192.0.2.1", "192.0.2", "2026-11-27T15:00:01.123Z",
+                    "2026-11-27", "15:00:01", "15:00:01.123", "1733000000.123", '"192.0.2.1, 10.0.0.1"', "unknown:80",
+                    "web-1,192.0.2.1", "for=192.0.2.1", "192.0.2", "2026-11-27T15:00:01.123Z",
                 )
             ) + line("INFO, 192.0.2.1 - ann", "b")
         },
         WEB,
         {"/b": 1},
         {"ann": "/b"},
-        ["left out 15, no user and no address: the first is line 1, '15:00:01, 192.0.2.1'\n"],
+        ["left out 14, no user and no address: the first is line 1, '15:00:01, 192.0.2.1'\n"],
     ),
     "a front before forwarded last": (
         {"a.log": line("15:00:01, 192.0.2.1 - -") + line("x,h.org - -") + line("x, localhost - -")},
@@ -134,15 +134,16 @@ CASES = {
                 line(f"{address} - -") for address in (
                     "192.0.2.1", "2001:db8::7", "::1", "::ffff:192.0.2.1", "2001:db8:1:2:3:4:5:6", "fe80::1%eth0",
                     "0:0:0:0:0:ffff:192.0.2.1", "[2001:db8::8]", "host-1.example.org", "h_2.example.org.", "localhost",
-                    "1.2.0.192.in-addr.arpa",
+                    "1.2.0.192.in-addr.arpa", "web-1", "f4a2c8d0", "17330021",
                 )
             )
         },
         WEB,
-        {"/a": 12},
+        {"/a": 15},
         dict.fromkeys(
             "192.0.2.1 2001:db8::7 ::1 ::ffff:192.0.2.1 2001:db8:1:2:3:4:5:6 fe80::1%eth0 0:0:0:0:0:ffff:192.0.2.1 "
-            "[2001:db8::8] host-1.example.org h_2.example.org. localhost 1.2.0.192.in-addr.arpa".split(),
+            "[2001:db8::8] host-1.example.org h_2.example.org. localhost 1.2.0.192.in-addr.arpa web-1 f4a2c8d0 "
+            "17330021".split(),
             "/a",
         ),
         [],
