@@ -174,7 +174,8 @@ uint32_t likes_service_snapshot(likes_service *service, uint64_t *counts, size_t
 /* Saves what likes_service_snapshot writes to a file: LIKES_OK. After a crash there is the file as it was, or the new one.
  * Meanwhile there is one of that name with ".new" behind it: let one process at a time save to a file. Or nothing is
  * changed: an answer of likes_service_snapshot, LIKES_NO_MEMORY or LIKES_FILE_FAULT. (LIKES_FILE_FAULT also comes where
- * there is the new file, but its folder can't be opened or brought to the disk.) */
+ * there is the new file, but its folder can't be opened or brought to the disk.) Neither this call nor the next is a
+ * cancellation point. */
 uint32_t likes_service_save(likes_service *service, const char *path);
 
 /* Opens a service that goes on from such a file: LIKES_OK. The options have no counts and no last likes. Where their

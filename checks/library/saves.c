@@ -1,5 +1,5 @@
-/* Counts and last likes of a service in a file: saved while threads like, and by two at once, loaded, grown, and refused where the file is
- * wrong in each of its bytes, or can't be written.
+/* Counts and last likes of a service in a file: saved while threads like, by two at once and by cancelled ones, loaded,
+ * grown, and refused where the file is wrong in each of its bytes, or can't be written.
  *
  * usage: saves FOLDER
  *
@@ -183,6 +183,45 @@ static void at_once(void) {
     IS(likes_service_close(service), LIKES_OK);
 }
 
+/* Holds of the thread, which was cancelled, that it may be, and that it isn't. */
+static void is_cancelled_later(void) {
+    int state;
+    pthread_setcancelstate(PTHREAD_CANCEL_DISABLE, &state);
+    IS(state, PTHREAD_CANCEL_ENABLE);
+}
+
+static void *save_cancelled(void *service) {
+    pthread_cancel(pthread_self());
+    IS(likes_service_save((likes_service *)service, path), LIKES_OK);
+    is_cancelled_later();
+    return NULL;
+}
+
+static void *load_cancelled(void *service) {
+    likes_options none = {0};
+    pthread_cancel(pthread_self());
+    IS(likes_service_load(path, &none, (likes_service **)service), LIKES_OK);
+    is_cancelled_later();
+    return NULL;
+}
+
+static void is_not_cancelled(void *(*work)(void *), void *at) {
+    pthread_t thread;
+    void *told = NULL;
+    start_thread(&thread, work, at);
+    pthread_join(thread, &told);
+    hold(told == NULL, "a thread was cancelled within a call");
+}
+
+/* A thread that was cancelled within a call would keep what other saves wait for. */
+static void cancelled(void) {
+    likes_service *service = opened(), *loaded = NULL;
+    is_not_cancelled(save_cancelled, service);
+    is_not_cancelled(load_cancelled, &loaded);
+    IS(likes_service_close(loaded), LIKES_OK);
+    IS(likes_service_close(service), LIKES_OK);
+}
+
 int main(int count, char **words) {
     if (count != 2) {
         fputs("usage: saves FOLDER\n", stderr);
@@ -195,6 +234,7 @@ int main(int count, char **words) {
     no_files();
     while_liked();
     at_once();
+    cancelled();
     puts("files held what was saved, and wrong ones were refused");
     return 0;
 }

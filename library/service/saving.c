@@ -1,7 +1,8 @@
 /* A service's counts and last likes in a file.
  *
  * The file has, in the order of bytes that likes.h asks for: a mark, a version, the numbers of pages and of users, each
- * page's count, each user's last like, and a sum of all before it. */
+ * page's count, each user's last like, and a sum of all before it. No thread is cancelled within a call: it
+ * would keep a lock, a file and memory. */
 #include "service.h"
 
 #include <fcntl.h>
@@ -99,9 +100,10 @@ static bool replace(const char *path, const saved *it) {
 uint32_t likes_service_save(likes_service *service, const char *path) {
     saved it = {.head = {MARK, VERSION, 0, 0}};
     uint32_t status = path == NULL ? (uint32_t)LIKES_NULL : likes_service_fault(service);
-    int error = errno;
+    int error = errno, cancel;
     if (status != LIKES_OK)
         return status;
+    pthread_setcancelstate(PTHREAD_CANCEL_DISABLE, &cancel);
     it.head.pages = service->pages;
     it.head.users = service->users;
     status = take(&it, it.head.pages, it.head.users) ? (uint32_t)LIKES_OK : (uint32_t)LIKES_NO_MEMORY;
@@ -116,6 +118,7 @@ uint32_t likes_service_save(likes_service *service, const char *path) {
     }
     error = status == LIKES_FILE_FAULT ? errno : error;
     give_back(&it);
+    pthread_setcancelstate(cancel, NULL);
     errno = error;
     return status;
 }
@@ -164,12 +167,13 @@ static uint32_t read_all(FILE *file, saved *it, likes_options *options) {
 
 uint32_t likes_service_load(const char *path, const likes_options *options, likes_service **service) {
     saved it = {.sum = 0};
-    int error = errno;
+    int error = errno, cancel;
     if (path == NULL || options == NULL || service == NULL)
         return LIKES_NULL;
     if (options->counts != NULL || options->lasts != NULL || options->lasts_len > 0)
         return options->counts != NULL ? LIKES_WRONG_COUNT : LIKES_WRONG_LASTS;
     likes_options with = *options;
+    pthread_setcancelstate(PTHREAD_CANCEL_DISABLE, &cancel);
     FILE *file = fopen(path, "rbe");
     uint32_t status = file == NULL ? (uint32_t)LIKES_FILE_FAULT : read_all(file, &it, &with);
     error = status == LIKES_FILE_FAULT ? errno : error;
@@ -178,6 +182,7 @@ uint32_t likes_service_load(const char *path, const likes_options *options, like
     if (status == LIKES_OK)
         status = likes_service_open(&with, service);
     give_back(&it);
+    pthread_setcancelstate(cancel, NULL);
     errno = error;
     return status;
 }
