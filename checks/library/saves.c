@@ -6,6 +6,7 @@
  * If something is wrong, it prints a line and exits with status 1. */
 #include "harness.h"
 
+#include <fcntl.h>
 #include <signal.h>
 #include <sys/resource.h>
 #include <sys/stat.h>
@@ -131,6 +132,32 @@ static void no_files(void) {
     IS(likes_service_close(service), LIKES_OK);
 }
 
+static void waits(int signal_number) {
+    (void)signal_number;
+    hold(false, "a call waits for a FIFO");
+}
+
+/* A folder, a device, and a FIFO, which nobody writes, and which keeps what it has: none is a saved file. */
+static void other_files(const char *folder) {
+    likes_options options = {.seats = 1};
+    likes_service *none = NULL;
+    char fifo[1010], byte = 'a';
+    snprintf(fifo, sizeof fifo, "%s/fifo", folder);
+    hold(mkfifo(fifo, 0600) == 0, "no FIFO was made");
+    signal(SIGALRM, waits);
+    alarm(30);
+    IS(likes_service_load(fifo, &options, &none), LIKES_NOT_SAVED);
+    int both = open(fifo, O_RDWR);
+    hold(write(both, &byte, 1) == 1, "a FIFO wasn't written");
+    IS(likes_service_load(fifo, &options, &none), LIKES_NOT_SAVED);
+    hold(read(both, &byte, 1) == 1, "a FIFO was read");
+    alarm(0);
+    close(both);
+    unlink(fifo);
+    IS(likes_service_load(folder, &options, &none), LIKES_NOT_SAVED);
+    IS(likes_service_load("/dev/null", &options, &none), LIKES_NOT_SAVED);
+}
+
 static void *like_on(void *at) {
     likes_service *service = (likes_service *)at;
     for (uint32_t n = 0; !is_set(&is_over); n++) {
@@ -232,6 +259,7 @@ int main(int count, char **words) {
     save_and_load();
     wrong_files();
     no_files();
+    other_files(words[1]);
     while_liked();
     at_once();
     cancelled();

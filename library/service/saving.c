@@ -123,12 +123,11 @@ uint32_t likes_service_save(likes_service *service, const char *path) {
     return status;
 }
 
-/* Whether a file is as long as its head says. */
-static bool is_whole(FILE *file, const head *it) {
-    struct stat told;
+/* Whether a file's length is what its head says. */
+static bool is_whole(const struct stat *told, const head *it) {
     uint64_t length = sizeof *it + it->pages * sizeof(uint64_t) + it->users * sizeof(uint32_t) + sizeof(uint64_t);
     bool is_possible = it->pages > 0 && it->pages <= LIKES_MAX_PAGES && it->users > 0 && it->users <= UINT32_MAX;
-    return is_possible && fstat(fileno(file), &told) == 0 && (uint64_t)told.st_size == length;
+    return is_possible && (uint64_t)told->st_size == length;
 }
 
 /* Reads the numbers behind the head, with memory for as many as are asked for, or why not. */
@@ -146,11 +145,14 @@ static uint32_t read_numbers(FILE *file, saved *it, uint64_t pages, uint64_t use
 
 /* Reads a file for at least so many pages and users: LIKES_OK, or what is wrong. */
 static uint32_t read_all(FILE *file, saved *it, likes_options *options) {
+    struct stat told;
+    if (fstat(fileno(file), &told) != 0 || !S_ISREG(told.st_mode))
+        return LIKES_NOT_SAVED;
     if (fread(&it->head, sizeof it->head, 1, file) != 1)
         return ferror(file) ? LIKES_FILE_FAULT : LIKES_NOT_SAVED;
     if (it->head.mark != MARK || it->head.version != VERSION)
         return it->head.mark != MARK ? LIKES_NOT_SAVED : LIKES_OTHER_VERSION;
-    if (!is_whole(file, &it->head))
+    if (!is_whole(&told, &it->head))
         return LIKES_WRONG_SIZE;
     options->pages = options->pages == 0 ? it->head.pages : options->pages;
     options->users = options->users == 0 ? (uint32_t)it->head.users : options->users;
@@ -174,11 +176,14 @@ uint32_t likes_service_load(const char *path, const likes_options *options, like
         return options->counts != NULL ? LIKES_WRONG_COUNT : LIKES_WRONG_LASTS;
     likes_options with = *options;
     pthread_setcancelstate(PTHREAD_CANCEL_DISABLE, &cancel);
-    FILE *file = fopen(path, "rbe");
+    int at = open(path, O_RDONLY | O_NONBLOCK | O_CLOEXEC); /* a FIFO isn't waited for */
+    FILE *file = at < 0 ? NULL : fdopen(at, "rb");
     uint32_t status = file == NULL ? (uint32_t)LIKES_FILE_FAULT : read_all(file, &it, &with);
     error = status == LIKES_FILE_FAULT ? errno : error;
     if (file != NULL)
         fclose(file);
+    else if (at >= 0)
+        close(at);
     if (status == LIKES_OK)
         status = likes_service_open(&with, service);
     give_back(&it);
