@@ -14,7 +14,14 @@
 enum { USERS = 7, PAGES = 3, SEATS = 2 };
 
 static char path[1000], beside[1010];
-static bool is_over;
+static bool is_over, is_to_cut;
+
+/* In place of the C library's. Where one is to be, the file is cut behind it. */
+int fstat(int file, struct stat *told) {
+    int status = fstatat(file, "", told, AT_EMPTY_PATH);
+    hold(!is_to_cut || truncate(path, 40) == 0, "no file was cut");
+    return status;
+}
 
 static likes_service *opened(void) {
     likes_service *service = NULL;
@@ -129,6 +136,17 @@ static void no_files(void) {
     hold(stat(path, &after) == 0, "there is no file");
     hold(before.st_ino == after.st_ino && before.st_size == after.st_size, "the old file was changed");
     hold(access(beside, F_OK) == -1, "a file is left");
+    IS(likes_service_close(service), LIKES_OK);
+}
+
+/* A file that is cut while it is read. */
+static void cut_file(void) {
+    likes_service *service = opened(), *none = NULL;
+    likes_options options = {.seats = 1};
+    IS(likes_service_save(service, path), LIKES_OK);
+    is_to_cut = true;
+    IS(likes_service_load(path, &options, &none), LIKES_WRONG_SIZE);
+    is_to_cut = false;
     IS(likes_service_close(service), LIKES_OK);
 }
 
@@ -259,6 +277,7 @@ int main(int count, char **words) {
     save_and_load();
     wrong_files();
     no_files();
+    cut_file();
     other_files(words[1]);
     while_liked();
     at_once();

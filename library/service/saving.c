@@ -137,7 +137,7 @@ static uint32_t read_numbers(FILE *file, saved *it, uint64_t pages, uint64_t use
     if (fread(it->counts, sizeof *it->counts, it->head.pages, file) != it->head.pages ||
         fread(it->lasts, sizeof *it->lasts, it->head.users, file) != it->head.users ||
         fread(&it->sum, sizeof it->sum, 1, file) != 1)
-        return LIKES_FILE_FAULT;
+        return ferror(file) ? LIKES_FILE_FAULT : LIKES_WRONG_SIZE;
     for (uint64_t user = it->head.users; user < users; user++)
         it->lasts[user] = LIKES_NO_PAGE;
     return sum_of_all(it) == it->sum ? LIKES_OK : LIKES_WRONG_SUM;
