@@ -139,6 +139,40 @@ static void no_files(void) {
     IS(likes_service_close(service), LIKES_OK);
 }
 
+static uint32_t mode_of(const char *name) {
+    struct stat told;
+    hold(lstat(name, &told) == 0, "there is no file");
+    return (uint32_t)told.st_mode;
+}
+
+/* A file keeps its mode, and a new one has what the umask leaves. What is beside it is removed, be it a link to another
+ * file, or a FIFO. A link is replaced itself. */
+static void modes_and_links(void) {
+    likes_service *service = opened();
+    struct stat told;
+    char other[1010];
+    mode_t mask = umask(027);
+    snprintf(other, sizeof other, "%s.other", path);
+    unlink(path);
+    IS(likes_service_save(service, path), LIKES_OK);
+    IS(mode_of(path), S_IFREG | 0640);
+    for (size_t i = 0; i < 2; i++) {
+        const mode_t modes[] = {0600, 0666};
+        hold(chmod(path, modes[i]) == 0 && rename(path, other) == 0, "no mode was set");
+        hold(symlink("saved.other", beside) == 0 && symlink("saved.other", path) == 0, "no links");
+        hold(truncate(other, 1) == 0, "no file was cut");
+        IS(likes_service_save(service, path), LIKES_OK);
+        IS(mode_of(path), S_IFREG | modes[i]);
+        hold(stat(other, &told) == 0 && told.st_size == 1, "another file was written");
+        hold(mkfifo(beside, 0600) == 0, "no FIFO was made");
+        IS(likes_service_save(service, path), LIKES_OK);
+        IS(mode_of(path), S_IFREG | modes[i]);
+    }
+    unlink(other);
+    umask(mask);
+    IS(likes_service_close(service), LIKES_OK);
+}
+
 /* A file that is cut while it is read. */
 static void cut_file(void) {
     likes_service *service = opened(), *none = NULL;
@@ -277,6 +311,7 @@ int main(int count, char **words) {
     save_and_load();
     wrong_files();
     no_files();
+    modes_and_links();
     cut_file();
     other_files(words[1]);
     while_liked();

@@ -78,17 +78,24 @@ static bool keep_name(const char *path) {
 /* Only one thread at a time writes a file: two of them may save to the same one. */
 static pthread_mutex_t replacing = PTHREAD_MUTEX_INITIALIZER;
 
-/* Writes a file beside the old one, and then gives it the old one's name: so after a crash there is one of the two. */
+/* Writes a file beside the old one, and then gives it the old one's name: so after a crash there is one of the two.
+ * What was beside it, from a crash or from others, is removed and not opened: it may be a link to any file. */
 static bool replace(const char *path, const saved *it) {
     char beside[4096];
+    struct stat old;
     if ((size_t)snprintf(beside, sizeof beside, "%s.new", path) >= sizeof beside) {
         errno = ENAMETOOLONG;
         return false;
     }
-    FILE *file = fopen(beside, "wbe");
-    if (file == NULL)
+    bool is_new = stat(path, &old) != 0 || !S_ISREG(old.st_mode);
+    mode_t mode = is_new ? 0666 : old.st_mode & 0777;
+    unlink(beside);
+    int at = open(beside, O_WRONLY | O_CREAT | O_EXCL | O_CLOEXEC, mode);
+    if (at < 0)
         return false;
-    bool is_written = write_all(file, it), is_closed = fclose(file) == 0;
+    FILE *file = fdopen(at, "wb");
+    bool is_written = file != NULL && (is_new || fchmod(at, mode) == 0) && write_all(file, it);
+    bool is_closed = (file != NULL ? fclose(file) : close(at)) == 0;
     if (is_written && is_closed && rename(beside, path) == 0)
         return keep_name(path);
     int error = errno;
