@@ -49,7 +49,7 @@ enum likes_service_status {
     LIKES_OPEN_WRITER = 1007,  /* a writer of the service is open */
     LIKES_WRONG_TAG = 1008,    /* the tag of a look in a row is 2^63 or more */
     LIKES_STOPPED = 1009,      /* the service was stopped */
-    LIKES_WRONG_LENGTH = 1010, /* an array hasn't one entry for each page, or for each user */
+    LIKES_WRONG_LENGTH = 1010, /* an array hasn't one entry for each page, or for each user, or a file has more */
     LIKES_FILE_FAULT = 1011,   /* a file can't be read or written: errno has the reason */
     LIKES_NOT_SAVED = 1012,    /* the file is none that likes_service_save has written */
     LIKES_OTHER_VERSION = 1013, /* the file has a version that this library doesn't know */
