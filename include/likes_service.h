@@ -49,7 +49,7 @@ enum likes_service_status {
     LIKES_OPEN_WRITER = 1007,  /* a writer of the service is open */
     LIKES_WRONG_TAG = 1008,    /* the tag of a look in a row is 2^63 or more */
     LIKES_STOPPED = 1009,      /* the service was stopped */
-    LIKES_WRONG_LENGTH = 1010, /* an array hasn't one entry for each page, or for each user */
+    LIKES_WRONG_LENGTH = 1010, /* an array hasn't one entry for each page, or for each user, or a file has more */
     LIKES_FILE_FAULT = 1011,   /* a file can't be read or written: errno has the reason */
     LIKES_NOT_SAVED = 1012,    /* the file is none that likes_service_save has written */
     LIKES_OTHER_VERSION = 1013, /* the file has a version that this library doesn't know */
@@ -173,10 +173,12 @@ uint32_t likes_service_counts(likes_service *service, uint64_t *counts, size_t p
  * service but by its handle while the phase was ending. Then some numbers, or all, are not written. */
 uint32_t likes_service_snapshot(likes_service *service, uint64_t *counts, size_t pages, uint32_t *lasts, size_t users);
 
-/* Saves what likes_service_snapshot writes to a file: LIKES_OK. After a crash there is the file as it was, or the new one.
- * Meanwhile there is one of that name with ".new" behind it: let one process at a time save to a file. Or nothing is
- * changed: an answer of likes_service_snapshot, LIKES_NO_MEMORY or LIKES_FILE_FAULT. (LIKES_FILE_FAULT also comes where
- * there is the new file, but its folder can't be opened or brought to the disk.) */
+/* Saves what likes_service_snapshot writes to a file: LIKES_OK. After a crash there is the file as it was, or the new
+ * one, which has the old one's mode, but not its owner, and replaces a symbolic link, not the link's target. Meanwhile
+ * there is one of that name with ".new" behind it, in place of any other: let one process at a time save to a file. Or
+ * nothing is changed: an answer of likes_service_snapshot, LIKES_NO_MEMORY or LIKES_FILE_FAULT. (LIKES_FILE_FAULT also
+ * comes where there is the new file, but its folder can't be opened or brought to the disk.) Neither this call nor the
+ * next is a cancellation point. */
 uint32_t likes_service_save(likes_service *service, const char *path);
 
 /* Opens a service that goes on from such a file: LIKES_OK. The options have no counts and no last likes. Where their

@@ -1,11 +1,12 @@
-/* Counts and last likes of a service in a file: saved while threads like, and by two at once, loaded, grown, and refused where the file is
- * wrong in each of its bytes, or can't be written.
+/* Counts and last likes of a service in a file: saved while threads like, by two at once and by cancelled ones, loaded,
+ * grown, and refused where the file is wrong in each of its bytes, or can't be written.
  *
  * usage: saves FOLDER
  *
  * If something is wrong, it prints a line and exits with status 1. */
 #include "harness.h"
 
+#include <fcntl.h>
 #include <signal.h>
 #include <sys/resource.h>
 #include <sys/stat.h>
@@ -13,7 +14,14 @@
 enum { USERS = 7, PAGES = 3, SEATS = 2 };
 
 static char path[1000], beside[1010];
-static bool is_over;
+static bool is_over, is_to_cut;
+
+/* In place of the C library's. Where one is to be, the file is cut behind it. */
+int fstat(int file, struct stat *told) {
+    int status = fstatat(file, "", told, AT_EMPTY_PATH);
+    hold(!is_to_cut || truncate(path, 40) == 0, "no file was cut");
+    return status;
+}
 
 static likes_service *opened(void) {
     likes_service *service = NULL;
@@ -131,6 +139,77 @@ static void no_files(void) {
     IS(likes_service_close(service), LIKES_OK);
 }
 
+static uint32_t mode_of(const char *name) {
+    struct stat told;
+    hold(lstat(name, &told) == 0, "there is no file");
+    return (uint32_t)told.st_mode;
+}
+
+/* A file keeps its mode, and a new one has what the umask leaves. What is beside it is removed, be it a link to another
+ * file, or a FIFO. A link is replaced itself. */
+static void modes_and_links(void) {
+    likes_service *service = opened();
+    struct stat told;
+    char other[1010];
+    mode_t mask = umask(027);
+    snprintf(other, sizeof other, "%s.other", path);
+    unlink(path);
+    IS(likes_service_save(service, path), LIKES_OK);
+    IS(mode_of(path), S_IFREG | 0640);
+    for (size_t i = 0; i < 2; i++) {
+        const mode_t modes[] = {0600, 0666};
+        hold(chmod(path, modes[i]) == 0 && rename(path, other) == 0, "no mode was set");
+        hold(symlink("saved.other", beside) == 0 && symlink("saved.other", path) == 0, "no links");
+        hold(truncate(other, 1) == 0, "no file was cut");
+        IS(likes_service_save(service, path), LIKES_OK);
+        IS(mode_of(path), S_IFREG | modes[i]);
+        hold(stat(other, &told) == 0 && told.st_size == 1, "another file was written");
+        hold(mkfifo(beside, 0600) == 0, "no FIFO was made");
+        IS(likes_service_save(service, path), LIKES_OK);
+        IS(mode_of(path), S_IFREG | modes[i]);
+    }
+    unlink(other);
+    umask(mask);
+    IS(likes_service_close(service), LIKES_OK);
+}
+
+/* A file that is cut while it is read. */
+static void cut_file(void) {
+    likes_service *service = opened(), *none = NULL;
+    likes_options options = {.seats = 1};
+    IS(likes_service_save(service, path), LIKES_OK);
+    is_to_cut = true;
+    IS(likes_service_load(path, &options, &none), LIKES_WRONG_SIZE);
+    is_to_cut = false;
+    IS(likes_service_close(service), LIKES_OK);
+}
+
+static void waits(int signal_number) {
+    (void)signal_number;
+    hold(false, "a call waits for a FIFO");
+}
+
+/* A folder, a device, and a FIFO, which nobody writes, and which keeps what it has: none is a saved file. */
+static void other_files(const char *folder) {
+    likes_options options = {.seats = 1};
+    likes_service *none = NULL;
+    char fifo[1010], byte = 'a';
+    snprintf(fifo, sizeof fifo, "%s/fifo", folder);
+    hold(mkfifo(fifo, 0600) == 0, "no FIFO was made");
+    signal(SIGALRM, waits);
+    alarm(30);
+    IS(likes_service_load(fifo, &options, &none), LIKES_NOT_SAVED);
+    int both = open(fifo, O_RDWR);
+    hold(write(both, &byte, 1) == 1, "a FIFO wasn't written");
+    IS(likes_service_load(fifo, &options, &none), LIKES_NOT_SAVED);
+    hold(read(both, &byte, 1) == 1, "a FIFO was read");
+    alarm(0);
+    close(both);
+    unlink(fifo);
+    IS(likes_service_load(folder, &options, &none), LIKES_NOT_SAVED);
+    IS(likes_service_load("/dev/null", &options, &none), LIKES_NOT_SAVED);
+}
+
 static void *like_on(void *at) {
     likes_service *service = (likes_service *)at;
     for (uint32_t n = 0; !is_set(&is_over); n++) {
@@ -183,6 +262,45 @@ static void at_once(void) {
     IS(likes_service_close(service), LIKES_OK);
 }
 
+/* Holds of the thread, which was cancelled, that it may be, and that it isn't. */
+static void is_cancelled_later(void) {
+    int state;
+    pthread_setcancelstate(PTHREAD_CANCEL_DISABLE, &state);
+    IS(state, PTHREAD_CANCEL_ENABLE);
+}
+
+static void *save_cancelled(void *service) {
+    pthread_cancel(pthread_self());
+    IS(likes_service_save((likes_service *)service, path), LIKES_OK);
+    is_cancelled_later();
+    return NULL;
+}
+
+static void *load_cancelled(void *service) {
+    likes_options none = {0};
+    pthread_cancel(pthread_self());
+    IS(likes_service_load(path, &none, (likes_service **)service), LIKES_OK);
+    is_cancelled_later();
+    return NULL;
+}
+
+static void is_not_cancelled(void *(*work)(void *), void *at) {
+    pthread_t thread;
+    void *told = NULL;
+    start_thread(&thread, work, at);
+    pthread_join(thread, &told);
+    hold(told == NULL, "a thread was cancelled within a call");
+}
+
+/* A thread that was cancelled within a call would keep what other saves wait for. */
+static void cancelled(void) {
+    likes_service *service = opened(), *loaded = NULL;
+    is_not_cancelled(save_cancelled, service);
+    is_not_cancelled(load_cancelled, &loaded);
+    IS(likes_service_close(loaded), LIKES_OK);
+    IS(likes_service_close(service), LIKES_OK);
+}
+
 int main(int count, char **words) {
     if (count != 2) {
         fputs("usage: saves FOLDER\n", stderr);
@@ -193,8 +311,12 @@ int main(int count, char **words) {
     save_and_load();
     wrong_files();
     no_files();
+    modes_and_links();
+    cut_file();
+    other_files(words[1]);
     while_liked();
     at_once();
+    cancelled();
     puts("files held what was saved, and wrong ones were refused");
     return 0;
 }

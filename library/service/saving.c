@@ -1,7 +1,8 @@
 /* A service's counts and last likes in a file.
  *
  * The file has, in the order of bytes that likes.h asks for: a mark, a version, the numbers of pages and of users, each
- * page's count, each user's last like, and a sum of all before it. */
+ * page's count, each user's last like, and a sum of all before it. No thread is cancelled within a call: it
+ * would keep a lock, a file and memory. */
 #include "service.h"
 
 #include <fcntl.h>
@@ -77,17 +78,24 @@ static bool keep_name(const char *path) {
 /* Only one thread at a time writes a file: two of them may save to the same one. */
 static pthread_mutex_t replacing = PTHREAD_MUTEX_INITIALIZER;
 
-/* Writes a file beside the old one, and then gives it the old one's name: so after a crash there is one of the two. */
+/* Writes a file beside the old one, and then gives it the old one's name: so after a crash there is one of the two.
+ * What was beside it, from a crash or from others, is removed and not opened: it may be a link to any file. */
 static bool replace(const char *path, const saved *it) {
     char beside[4096];
+    struct stat old;
     if ((size_t)snprintf(beside, sizeof beside, "%s.new", path) >= sizeof beside) {
         errno = ENAMETOOLONG;
         return false;
     }
-    FILE *file = fopen(beside, "wbe");
-    if (file == NULL)
+    bool is_new = stat(path, &old) != 0 || !S_ISREG(old.st_mode);
+    mode_t mode = is_new ? 0666 : old.st_mode & 0777;
+    unlink(beside);
+    int at = open(beside, O_WRONLY | O_CREAT | O_EXCL | O_CLOEXEC, mode);
+    if (at < 0)
         return false;
-    bool is_written = write_all(file, it), is_closed = fclose(file) == 0;
+    FILE *file = fdopen(at, "wb");
+    bool is_written = file != NULL && (is_new || fchmod(at, mode) == 0) && write_all(file, it);
+    bool is_closed = (file != NULL ? fclose(file) : close(at)) == 0;
     if (is_written && is_closed && rename(beside, path) == 0)
         return keep_name(path);
     int error = errno;
@@ -99,9 +107,10 @@ static bool replace(const char *path, const saved *it) {
 uint32_t likes_service_save(likes_service *service, const char *path) {
     saved it = {.head = {MARK, VERSION, 0, 0}};
     uint32_t status = path == NULL ? (uint32_t)LIKES_NULL : likes_service_fault(service);
-    int error = errno;
+    int error = errno, cancel;
     if (status != LIKES_OK)
         return status;
+    pthread_setcancelstate(PTHREAD_CANCEL_DISABLE, &cancel);
     it.head.pages = service->pages;
     it.head.users = service->users;
     status = take(&it, it.head.pages, it.head.users) ? (uint32_t)LIKES_OK : (uint32_t)LIKES_NO_MEMORY;
@@ -116,16 +125,16 @@ uint32_t likes_service_save(likes_service *service, const char *path) {
     }
     error = status == LIKES_FILE_FAULT ? errno : error;
     give_back(&it);
+    pthread_setcancelstate(cancel, NULL);
     errno = error;
     return status;
 }
 
-/* Whether a file is as long as its head says. */
-static bool is_whole(FILE *file, const head *it) {
-    struct stat told;
+/* Whether a file's length is what its head says. */
+static bool is_whole(const struct stat *told, const head *it) {
     uint64_t length = sizeof *it + it->pages * sizeof(uint64_t) + it->users * sizeof(uint32_t) + sizeof(uint64_t);
     bool is_possible = it->pages > 0 && it->pages <= LIKES_MAX_PAGES && it->users > 0 && it->users <= UINT32_MAX;
-    return is_possible && fstat(fileno(file), &told) == 0 && (uint64_t)told.st_size == length;
+    return is_possible && (uint64_t)told->st_size == length;
 }
 
 /* Reads the numbers behind the head, with memory for as many as are asked for, or why not. */
@@ -135,7 +144,7 @@ static uint32_t read_numbers(FILE *file, saved *it, uint64_t pages, uint64_t use
     if (fread(it->counts, sizeof *it->counts, it->head.pages, file) != it->head.pages ||
         fread(it->lasts, sizeof *it->lasts, it->head.users, file) != it->head.users ||
         fread(&it->sum, sizeof it->sum, 1, file) != 1)
-        return LIKES_FILE_FAULT;
+        return ferror(file) ? LIKES_FILE_FAULT : LIKES_WRONG_SIZE;
     for (uint64_t user = it->head.users; user < users; user++)
         it->lasts[user] = LIKES_NO_PAGE;
     return sum_of_all(it) == it->sum ? LIKES_OK : LIKES_WRONG_SUM;
@@ -143,11 +152,14 @@ static uint32_t read_numbers(FILE *file, saved *it, uint64_t pages, uint64_t use
 
 /* Reads a file for at least so many pages and users: LIKES_OK, or what is wrong. */
 static uint32_t read_all(FILE *file, saved *it, likes_options *options) {
+    struct stat told;
+    if (fstat(fileno(file), &told) != 0 || !S_ISREG(told.st_mode))
+        return LIKES_NOT_SAVED;
     if (fread(&it->head, sizeof it->head, 1, file) != 1)
         return ferror(file) ? LIKES_FILE_FAULT : LIKES_NOT_SAVED;
     if (it->head.mark != MARK || it->head.version != VERSION)
         return it->head.mark != MARK ? LIKES_NOT_SAVED : LIKES_OTHER_VERSION;
-    if (!is_whole(file, &it->head))
+    if (!is_whole(&told, &it->head))
         return LIKES_WRONG_SIZE;
     options->pages = options->pages == 0 ? it->head.pages : options->pages;
     options->users = options->users == 0 ? (uint32_t)it->head.users : options->users;
@@ -164,20 +176,25 @@ static uint32_t read_all(FILE *file, saved *it, likes_options *options) {
 
 uint32_t likes_service_load(const char *path, const likes_options *options, likes_service **service) {
     saved it = {.sum = 0};
-    int error = errno;
+    int error = errno, cancel;
     if (path == NULL || options == NULL || service == NULL)
         return LIKES_NULL;
     if (options->counts != NULL || options->lasts != NULL || options->lasts_len > 0)
         return options->counts != NULL ? LIKES_WRONG_COUNT : LIKES_WRONG_LASTS;
     likes_options with = *options;
-    FILE *file = fopen(path, "rbe");
+    pthread_setcancelstate(PTHREAD_CANCEL_DISABLE, &cancel);
+    int at = open(path, O_RDONLY | O_NONBLOCK | O_CLOEXEC); /* a FIFO isn't waited for */
+    FILE *file = at < 0 ? NULL : fdopen(at, "rb");
     uint32_t status = file == NULL ? (uint32_t)LIKES_FILE_FAULT : read_all(file, &it, &with);
     error = status == LIKES_FILE_FAULT ? errno : error;
     if (file != NULL)
         fclose(file);
+    else if (at >= 0)
+        close(at);
     if (status == LIKES_OK)
         status = likes_service_open(&with, service);
     give_back(&it);
+    pthread_setcancelstate(cancel, NULL);
     errno = error;
     return status;
 }
