@@ -9,12 +9,14 @@
  *     clients are closed, and the service is closed or freed, in any order, all is given back.
  *   - While a client is opened and gets no memory, no other can be closed. So it isn't lost, and the service can be
  *     closed.
- *   - likes_service_stop writes its counts also where it gets no memory.
+ *   - likes_service_stop writes its counts also where it gets no memory. A thread that has made no call yet opens no
+ *     writer then, whose likes it couldn't hand over, and doesn't retire the service, whose last likes it couldn't read.
  *
  * It replaces malloc and its kin, and calls those of the GNU C library by their other names. */
 #include "opening.h"
 
 #include <errno.h>
+#include <pthread.h>
 #include <stdio.h>
 #include <stdlib.h>
 
@@ -458,6 +460,19 @@ static void use_shared(bool is_closed) {
         fail(__LINE__, "the end of a shared service", "leaves blocks behind");
 }
 
+/* A thread's first calls, where there is no memory. */
+static void *call_without_memory(void *at) {
+    likes_service *service = (likes_service *)at;
+    likes_writer *writer = NULL;
+    first = 1;
+    last = SIZE_MAX;
+    uint32_t opened = likes_writer_open(service, &writer), retired = likes_service_retire(service);
+    first = last = 0;
+    if (opened != LIKES_NO_MEMORY || writer != NULL || retired != LIKES_NO_MEMORY)
+        fail(__LINE__, "a thread's first call", "has the wrong answer");
+    return NULL;
+}
+
 /* A service is stopped where there is no memory. */
 static void stop_without_memory(void) {
     likes_options options = {.pages = PAGES, .users = USERS, .seats = SEATS};
@@ -465,13 +480,18 @@ static void stop_without_memory(void) {
     likes_service *service = NULL;
     if (likes_service_open(&options, &service) != LIKES_OK || likes_service_like(service, 1, 2) != LIKES_LIKED)
         fail(__LINE__, "likes_service_open", "has failed");
+    pthread_t thread;
+    if (pthread_create(&thread, NULL, call_without_memory, service) != 0 || pthread_join(thread, NULL) != 0)
+        fail(__LINE__, "a thread", "has not begun or ended");
+    if (likes_service_like(service, 1, 2) != LIKES_LIKED)
+        fail(__LINE__, "likes_service_like", "has failed");
     made = 0;
     first = 1;
     last = SIZE_MAX;
     errno = 0;
     uint32_t status = likes_service_stop(service, counts, PAGES);
     first = last = 0;
-    if (status != LIKES_OK || counts[1] != 0 || counts[2] != 1 || errno != 0)
+    if (status != LIKES_OK || counts[1] != 0 || counts[2] != 2 || errno != 0)
         fail(__LINE__, "likes_service_stop", "has the wrong counts, or changes errno");
     likes_service_close(service);
 }

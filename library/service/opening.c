@@ -119,10 +119,7 @@ static uint32_t end_fault(const likes_service *service) {
 }
 
 /* Once the driver's thread has ended, its member is this thread's. */
-uint32_t likes_service_retire(likes_service *service) {
-    uint32_t fault = end_fault(service);
-    if (fault != LIKES_OK)
-        return fault;
+static void retire(likes_service *service) {
     service->is_stopping = true;
     inner_call(service);
     if (service->has_thread)
@@ -130,7 +127,16 @@ uint32_t likes_service_retire(likes_service *service) {
     service->has_thread = false;
     while (leave(service->own) != LIKES_ENDED)
         ;
-    return LIKES_OK;
+}
+
+/* This thread has a member then, so that the last likes can be read. */
+uint32_t likes_service_retire(likes_service *service) {
+    uint32_t fault = end_fault(service);
+    if (fault == LIKES_OK && inner_member_of(service) == NULL)
+        fault = LIKES_NO_MEMORY;
+    if (fault == LIKES_OK)
+        retire(service);
+    return fault;
 }
 
 /* The counts are written before the shared service is closed, which may get no memory. */
@@ -140,7 +146,7 @@ uint32_t likes_service_stop(likes_service *service, uint64_t *counts, size_t pag
         return fault;
     if (pages != service->pages)
         return LIKES_WRONG_LENGTH;
-    likes_service_retire(service);
+    retire(service);
     likes_service_statistics(service, &service->ended);
     likes_client_last_counts(&service->own->client, 0, counts, pages);
     end(service);
@@ -149,11 +155,13 @@ uint32_t likes_service_stop(likes_service *service, uint64_t *counts, size_t pag
 }
 
 uint32_t likes_service_close(likes_service *service) {
-    uint32_t status = likes_service_retire(service);
-    if (status == LIKES_OK)
-        end(service);
+    uint32_t status = end_fault(service);
     if (status != LIKES_OK && status != LIKES_NOT_STARTED && status != LIKES_STOPPED)
         return status;
+    if (status == LIKES_OK) {
+        retire(service);
+        end(service);
+    }
     if (service != NULL)
         likes_shared_free(&service->shared);
     free(service);

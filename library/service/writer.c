@@ -78,6 +78,9 @@ uint32_t likes_writer_open(likes_service *service, likes_writer **writer) {
         return fault;
     if (*writer != NULL)
         return LIKES_IN_USE;
+    /* So that handing over takes no memory. */
+    if (inner_member_of(service) == NULL)
+        return LIKES_NO_MEMORY;
     int error = errno;
     likes_writer *made = (likes_writer *)calloc(1, sizeof *made + service->seats * sizeof *made->rows);
     /* clang takes calloc to leave errno, and would drop the line below. */
