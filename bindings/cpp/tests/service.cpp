@@ -56,6 +56,7 @@ static void openings() {
     hold(open([](auto &it) { it.seats = 65; }, {0}) == LIKES_WRONG_SEATS, "65 seats");
     hold(open([](auto &it) { it.seats = 0; }, {0}) == LIKES_WRONG_SEATS, "no seats");
     hold(open([](auto &it) { it.room = 0; }, {0}) == LIKES_WRONG_ROOM, "no room");
+    hold(open([](auto &it) { it.hot = 0; }, {0}) == LIKES_WRONG_HOT, "hot from no like");
     hold(open([](auto &it) { it.users = 0; }, {0}) == LIKES_WRONG_USERS, "no users");
     hold(open([](auto &it) { it.marks = {2}; }, {5, 7}) == LIKES_WRONG_MARKS, "a wrong mark");
     hold(open([](auto &it) { it.marks.reserve(4); }, {0}) == LIKES_OK, "no marks, in a vector with memory");
