@@ -345,9 +345,13 @@ impl Service {
     }
 }
 
-/// A path for C.
+/// A path for C, which would take what is before a byte 0 for the whole of it.
 fn path_of(path: &Path) -> Result<CString, Error> {
-    CString::new(path.as_os_str().as_bytes()).map_err(|_| Error::FileFault)
+    CString::new(path.as_os_str().as_bytes()).ok().ok_or_else(|| {
+        // SAFETY: errno is this thread's own.
+        unsafe { *ffi::__errno_location() = ffi::EINVAL };
+        Error::FileFault
+    })
 }
 
 impl Drop for Service {

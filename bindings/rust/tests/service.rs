@@ -1,5 +1,6 @@
 //! A service under threads.
 
+use std::io;
 use std::panic::{catch_unwind, AssertUnwindSafe};
 use std::sync::atomic::{AtomicBool, Ordering};
 use std::sync::Arc;
@@ -361,5 +362,7 @@ fn a_file_has_a_moment() {
     assert!(matches!(Service::load(&path, &options(0), 0), Err(Error::NotSaved)));
     std::fs::remove_file(&path).unwrap();
     assert!(matches!(Service::load(&path, &options(0), 0), Err(Error::FileFault)));
+    assert_eq!(io::Error::last_os_error().kind(), io::ErrorKind::NotFound);
     assert!(matches!(Service::load("a\0b", &options(0), 0), Err(Error::FileFault)));
+    assert_eq!(io::Error::last_os_error().kind(), io::ErrorKind::InvalidInput);
 }
