@@ -175,6 +175,7 @@ fn a_thread_that_holds_a_seat_never_waits_for_itself() {
             assert_eq!(service.glance(user, 0), Err(Error::HoldsSeat));
             assert_eq!(service.last(user), Err(Error::HoldsSeat));
         }
+        assert_eq!(service.like(4, 3), Err(Error::HoldsSeat));
         assert_eq!(service.counts(), Err(Error::HoldsSeat));
         assert_eq!(service.snapshot(), Err(Error::HoldsSeat));
         assert_eq!(service.propose(&[1]), Err(Error::HoldsSeat));
@@ -209,7 +210,8 @@ fn a_writer_keeps_likes_of_a_seat_that_has_left() {
     let service = open(2, 4, 4);
     let mut writer = service.writer().unwrap();
     service.retire_seat(1).unwrap();
-    assert_eq!(service.like(1, 0), Err(Error::Gone));
+    assert_eq!([(1, 0), (1, 3), (5, 0)].map(|(user, page)| service.like(user, page)), [Err(Error::Gone); 3]);
+    assert_eq!(writer.like(1, 3), Err(Error::UnknownPage));
     writer.like(1, 0).unwrap();
     writer.like(2, 0).unwrap();
     assert_eq!(writer.flush(), Err(Error::Gone));
@@ -321,6 +323,7 @@ fn wrong_numbers_are_errors() {
     let right = options(2, 2, 4);
     assert_eq!(refused(Options { period: Some(Duration::ZERO), ..right }), Some(Error::WrongPeriod));
     assert_eq!(refused(Options { period: Some(Duration::from_secs(1001)), ..right }), Some(Error::WrongPeriod));
+    assert_eq!(refused(Options { period: Some(Duration::ZERO), users: 0, ..right }), Some(Error::WrongPeriod));
     assert_eq!(refused(Options { seats: Some(0), ..right }), Some(Error::WrongSeats));
     assert_eq!(refused(Options { users: 0, ..right }), Some(Error::WrongUsers));
     assert_eq!(Service::open(&right, &[]).err(), Some(Error::WrongPages));
