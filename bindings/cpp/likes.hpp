@@ -86,7 +86,7 @@ struct Shown {
 struct Statistics {
     std::uint64_t phases = 0; // how many have ended
     std::uint64_t likes = 0;  // how many were counted
-    std::uint64_t looks = 0;  // how many were answered
+    std::uint64_t looks = 0;  // how many single ones were answered
     std::uint64_t waits = 0;  // how many of these looks had to wait
     std::uint64_t late = 0;   // how many had no answer in time
     std::chrono::nanoseconds wait_time = {};    // how long looks waited in all

@@ -207,7 +207,7 @@ pub struct Statistics {
     pub phases: u64,
     /// How many likes were counted.
     pub likes: u64,
-    /// How many looks were answered.
+    /// How many single looks were answered. Those of rows aren't among them.
     pub looks: u64,
     /// How many of these looks had to wait.
     pub waits: u64,
