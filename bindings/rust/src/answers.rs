@@ -132,9 +132,9 @@ statuses! {
         WrongRoom = WRONG_ROOM,
         /// [`Options::hot`](crate::Options::hot) is wrong.
         WrongHot = WRONG_HOT,
-        /// There is too little memory for a service.
+        /// There is too little memory.
         NoMemory = NO_MEMORY,
-        /// Of a [`Service`](crate::Service): looks of [`Held`](crate::Held) seats fill the seat. Take found ones.
+        /// No call gives it: a row that stops at a look without room has [`Outcome::NoRoom`] there.
         NoRoom = NO_ROOM,
         /// Of a [`Service`](crate::Service): the seat has had 2^56 likes.
         LikeLimit = LIKE_LIMIT,
