@@ -180,12 +180,16 @@ fn a_thread_that_holds_a_seat_never_waits_for_itself() {
         assert_eq!(service.snapshot(), Err(Error::HoldsSeat));
         assert_eq!(service.propose(&[1]), Err(Error::HoldsSeat));
         assert_eq!(service.retire_seat(1), Err(Error::HoldsSeat));
+        service.tick();
+        assert!(service.writer().is_ok() && service.statistics().likes == 0);
         service.with_seat(1, |_| ())
     });
     assert_eq!(held, Ok(Err(Error::HoldsSeat)));
     let mut answers = [Answer::NONE];
     let done = service.with_seat(0, |seat| seat.run(&[Request::look(0, 0, 1 << 63)], &mut answers));
     assert_eq!((done, answers[0].outcome()), (Ok(1), Err(Error::WrongTag)));
+    let done = service.with_seat(0, |seat| seat.run(&[Request::look(0, 1, 1)], &mut answers));
+    assert_eq!((done, service.statistics().looks), (Ok(1), 0));
 }
 
 /// A look through a writer shows each like of its page that the writer was told, by whichever user.
