@@ -275,7 +275,8 @@ public:
     void bring_back_seat(std::uint32_t number) { expect(likes_service_bring_back_seat(service_, number), LIKES_OK); }
 
     // Ends the service, and gives its last moment, each time the same. All threads are done with it. Later calls throw
-    // LIKES_STOPPED. Where a writer is open, it throws LIKES_OPEN_WRITER, and nothing is done.
+    // LIKES_STOPPED, but for tick, phase, seats and statistics. Where a writer is open, it throws LIKES_OPEN_WRITER,
+    // and nothing is done.
     Moment stop() {
         if (!end_) {
             std::vector<std::uint64_t> counts(pages_);

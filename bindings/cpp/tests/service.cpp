@@ -242,6 +242,8 @@ static void late(likes::Service &service) {
     hold(thrown([&] { (void)service.writer(); }) == LIKES_STOPPED, "a writer after the end");
     hold(thrown([&] { service.snapshot(); }) == LIKES_STOPPED, "a snapshot after the end");
     hold(service.statistics().likes == 1, "statistics after the end");
+    service.tick();
+    hold(service.phase() == 0 && service.seats() == 2, "a phase and seats after the end");
     hold(thrown([&] { service.save("likes.saved"); }) == LIKES_STOPPED, "a file after the end");
 }
 
