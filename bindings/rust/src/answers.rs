@@ -103,10 +103,10 @@ statuses! {
 statuses! {
     /// A wrong number, or too little memory. What was asked for wasn't done.
     ///
-    /// If several apply, `open` gives `WrongPeriod`, or else the first in this order. A service gives `HoldsSeat`, and
-    /// then `Gone`, before it tells of an unknown user or page; only [`Writer::like`](crate::Writer::like) gives `Gone`
-    /// after that. The headers have the order of other calls. What `likes.h` refuses beside these can't be asked for:
-    /// empty handles, unknown operations and ends, reserved fields.
+    /// If several apply, `open` gives `WrongPeriod`, or else the first in this order. A service gives `NoMemory`,
+    /// `HoldsSeat` and `Gone` before it tells of an unknown user or page; only [`Writer::like`](crate::Writer::like)
+    /// gives `Gone` after that. The headers have the order of other calls. What `likes.h` refuses beside these can't be
+    /// asked for: empty handles, unknown operations and ends, reserved fields.
     Error {
         /// The service has fewer users.
         UnknownUser = UNKNOWN_USER,
