@@ -86,7 +86,7 @@ struct Shown {
 struct Statistics {
     std::uint64_t phases = 0; // how many have ended
     std::uint64_t likes = 0;  // how many were counted
-    std::uint64_t looks = 0;  // how many were answered
+    std::uint64_t looks = 0;  // how many single ones were answered
     std::uint64_t waits = 0;  // how many of these looks had to wait
     std::uint64_t late = 0;   // how many had no answer in time
     std::chrono::nanoseconds wait_time = {};    // how long looks waited in all
@@ -275,7 +275,8 @@ public:
     void bring_back_seat(std::uint32_t number) { expect(likes_service_bring_back_seat(service_, number), LIKES_OK); }
 
     // Ends the service, and gives its last moment, each time the same. All threads are done with it. Later calls throw
-    // LIKES_STOPPED. Where a writer is open, it throws LIKES_OPEN_WRITER, and nothing is done.
+    // LIKES_STOPPED, but for tick, phase, seats and statistics. Where a writer is open, it throws LIKES_OPEN_WRITER,
+    // and nothing is done.
     Moment stop() {
         if (!end_) {
             std::vector<std::uint64_t> counts(pages_);

@@ -73,7 +73,8 @@ public:
         numbers_.users = options.users;
         numbers_.seats = given(options.seats);
         numbers_.room = given(options.room);
-        numbers_.hot = options.hot.value_or(0);
+        // A wrong number in place of 0, but not no_hot.
+        numbers_.hot = options.hot == 0u ? no_hot - 1 : options.hot.value_or(0);
         numbers_.period_us = microseconds(options.period);
     }
     Opening(const Opening &) = delete;

@@ -63,7 +63,7 @@ type Moment struct {
 
 // Statistics is what a service has done so far.
 type Statistics struct {
-	Phases, Likes, Looks  uint64 // phases that have ended, likes that were counted, looks that were answered
+	Phases, Likes, Looks  uint64 // phases that have ended, likes that were counted, single looks that were answered
 	Waits, Late           uint64 // looks that had to wait, and looks without an answer in time
 	WaitTime, LongestWait time.Duration
 }

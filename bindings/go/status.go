@@ -67,7 +67,7 @@ const (
 	ErrWrongSum     Error = C.LIKES_WRONG_SUM     // the file was changed since it was written
 
 	// Of a service, these outcomes of its seats are errors.
-	ErrNoRoom    Error = C.LIKES_NO_ROOM    // looks of rows fill the seat
+	ErrNoRoom    Error = C.LIKES_NO_ROOM    // no call gives it: a row that stops has NoRoom
 	ErrLikeLimit Error = C.LIKES_LIKE_LIMIT // the seat has had 2^56 likes
 	ErrGone      Error = C.LIKES_GONE       // the user's seat has left
 	ErrNoMoment  Error = C.LIKES_NO_MOMENT  // a seat was held for so long that nothing is of one moment

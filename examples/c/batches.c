@@ -1,6 +1,6 @@
 /* Threads at full speed: each locks a seat, and runs rows of 64 requests. One request in eight is a look.
  *
- * usage: batches [THREADS [LIKES]]: how many threads, 1 to 16 (4), and how many likes each (1000000) */
+ * usage: batches [THREADS [LIKES]]: how many threads, 1 to 64 (4), and how many likes each (1000000) */
 #include <likes_service.h>
 
 #include <inttypes.h>
@@ -17,6 +17,18 @@ typedef struct {
     uint64_t asked, seen, found; /* looks that it asked for, that were answered at once, and that were found later */
     pthread_t thread;
 } worker;
+
+static void fail(const char *why) {
+    fprintf(stderr, "%s\n", why);
+    exit(1);
+}
+
+static likes_seat *lock(likes_service *service, uint32_t number) {
+    likes_seat *seat = likes_service_lock(service, number);
+    if (seat == NULL) /* the thread holds no other seat, so it has no memory */
+        fail(likes_status_text(LIKES_NO_MEMORY));
+    return seat;
+}
 
 /* A row of requests: users of this seat, and page 0 in half of them. */
 static void fill(worker *it, likes_request *row, uint64_t *random) {
@@ -46,7 +58,7 @@ static void *work(void *at) {
     likes_request row[ROW] = {{0}}; /* its reserved fields are 0 and stay so */
     likes_answer answers[ROW];
     uint64_t random = it->number, liked = 0, latest = 0;
-    likes_seat *seat = likes_service_lock(it->service, it->number);
+    likes_seat *seat = lock(it->service, it->number);
     while (liked < it->likes) {
         fill(it, row, &random);
         for (size_t done = 0; done < ROW;) {
@@ -69,6 +81,8 @@ static void *work(void *at) {
 int main(int count, char **words) {
     uint32_t threads = count > 1 ? (uint32_t)strtoul(words[1], NULL, 10) : 4;
     uint64_t likes = count > 2 ? strtoull(words[2], NULL, 10) : 1000000;
+    if (threads < 1 || threads > LIKES_MAX_SEATS || likes < 1)
+        fail("usage: batches [THREADS [LIKES]]: 1 to 64 threads, and 1 or more likes of each");
     static worker workers[LIKES_MAX_SEATS];
     likes_service *service = NULL;
     const uint64_t counts[PAGES] = {0};
@@ -76,21 +90,19 @@ int main(int count, char **words) {
     const likes_options options = {
         .counts = counts, .pages = PAGES, .users = USERS, .seats = threads, .room = 4096, .hot = 1000};
     uint32_t status = likes_service_open(&options, &service);
-    if (!likes_is_success(status)) {
-        fprintf(stderr, "not opened: %s\n", likes_status_text(status));
-        return 1;
-    }
+    if (!likes_is_success(status))
+        fail(likes_status_text(status));
     for (uint32_t i = 0; i < threads; i++) {
         workers[i] = (worker){.service = service, .number = i, .threads = threads, .likes = likes};
         if (pthread_create(&workers[i].thread, NULL, work, &workers[i]) != 0)
-            abort();
+            fail("a thread can't be started");
     }
     for (uint32_t i = 0; i < threads; i++)
         pthread_join(workers[i].thread, NULL);
     likes_service_retire(service); /* so the last looks that wait are found */
     for (uint32_t i = 0; i < threads; i++) {
         uint64_t latest = 0;
-        take(&workers[i], likes_service_lock(service, i), &latest);
+        take(&workers[i], lock(service, i), &latest);
         likes_service_unlock(service, i);
         liked += workers[i].likes;
         asked += workers[i].asked;

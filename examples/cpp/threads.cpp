@@ -1,8 +1,8 @@
 // Four threads like and look, by a writer and in rows, and the totals are printed.
 #include "likes.hpp"
 
+#include <future>
 #include <iostream>
-#include <thread>
 
 constexpr std::uint32_t threads = 4, users = 1000, likes_each = 50000;
 
@@ -38,11 +38,12 @@ int main() {
         options.users = users;
         options.seats = threads; // one for each thread that holds its seat
         likes::Service service(options, {0, 0, 0, 0});
-        std::vector<std::thread> all;
+        std::vector<std::future<void>> all;
         for (std::uint32_t number = 0; number < threads; number++)
-            all.emplace_back(number % 2 ? call_in_rows : call_by_writer, std::ref(service), number);
+            all.push_back(std::async(std::launch::async, number % 2 ? call_in_rows : call_by_writer, std::ref(service),
+                                     number));
         for (auto &thread : all)
-            thread.join();
+            thread.get(); // throws what the thread has thrown
         try {
             service.like(users, 0);
         } catch (const likes::Error &error) {

@@ -56,6 +56,7 @@ static void openings() {
     hold(open([](auto &it) { it.seats = 65; }, {0}) == LIKES_WRONG_SEATS, "65 seats");
     hold(open([](auto &it) { it.seats = 0; }, {0}) == LIKES_WRONG_SEATS, "no seats");
     hold(open([](auto &it) { it.room = 0; }, {0}) == LIKES_WRONG_ROOM, "no room");
+    hold(open([](auto &it) { it.hot = 0; }, {0}) == LIKES_WRONG_HOT, "hot from no like");
     hold(open([](auto &it) { it.users = 0; }, {0}) == LIKES_WRONG_USERS, "no users");
     hold(open([](auto &it) { it.marks = {2}; }, {5, 7}) == LIKES_WRONG_MARKS, "a wrong mark");
     hold(open([](auto &it) { it.marks.reserve(4); }, {0}) == LIKES_OK, "no marks, in a vector with memory");
@@ -241,6 +242,8 @@ static void late(likes::Service &service) {
     hold(thrown([&] { (void)service.writer(); }) == LIKES_STOPPED, "a writer after the end");
     hold(thrown([&] { service.snapshot(); }) == LIKES_STOPPED, "a snapshot after the end");
     hold(service.statistics().likes == 1, "statistics after the end");
+    service.tick();
+    hold(service.phase() == 0 && service.seats() == 2, "a phase and seats after the end");
     hold(thrown([&] { service.save("likes.saved"); }) == LIKES_STOPPED, "a file after the end");
 }
 

@@ -36,8 +36,9 @@ class Moment(NamedTuple):
 
 
 class Statistics(NamedTuple):
-    """What a service has done so far: how many phases have ended, likes were counted, looks were answered, of these had
-    to wait, and looks had no answer in time. How long looks waited in all and one of them at most, in seconds."""
+    """What a service has done so far: how many phases have ended, likes were counted, single looks were answered, of
+    these had to wait, and looks had no answer in time. How long looks waited in all and one of them at most, in
+    seconds."""
 
     phases: int
     likes: int

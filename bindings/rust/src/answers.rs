@@ -103,8 +103,10 @@ statuses! {
 statuses! {
     /// A wrong number, or too little memory. What was asked for wasn't done.
     ///
-    /// If several apply, it is the first in this order. What `likes.h` refuses beside these can't be asked for: empty
-    /// handles, unknown operations and ends, reserved fields.
+    /// If several apply, `open` gives `WrongPeriod`, or else the first in this order. A service gives `NoMemory`,
+    /// `HoldsSeat` and `Gone` before it tells of an unknown user or page; only [`Writer::like`](crate::Writer::like)
+    /// gives `Gone` after that. The headers have the order of other calls. What `likes.h` refuses beside these can't be
+    /// asked for: empty handles, unknown operations and ends, reserved fields.
     Error {
         /// The service has fewer users.
         UnknownUser = UNKNOWN_USER,
@@ -130,9 +132,9 @@ statuses! {
         WrongRoom = WRONG_ROOM,
         /// [`Options::hot`](crate::Options::hot) is wrong.
         WrongHot = WRONG_HOT,
-        /// There is too little memory for a service.
+        /// There is too little memory.
         NoMemory = NO_MEMORY,
-        /// Of a [`Service`](crate::Service): looks of [`Held`](crate::Held) seats fill the seat. Take found ones.
+        /// No call gives it: a row that stops at a look without room has [`Outcome::NoRoom`] there.
         NoRoom = NO_ROOM,
         /// Of a [`Service`](crate::Service): the seat has had 2^56 likes.
         LikeLimit = LIKE_LIMIT,
@@ -205,7 +207,7 @@ pub struct Statistics {
     pub phases: u64,
     /// How many likes were counted.
     pub likes: u64,
-    /// How many looks were answered.
+    /// How many single looks were answered. Those of rows aren't among them.
     pub looks: u64,
     /// How many of these looks had to wait.
     pub waits: u64,

@@ -1,6 +1,6 @@
 //! The calls of `likes.h` as the library exports them, and its structures.
 
-use std::ffi::{c_char, c_void};
+use std::ffi::{c_char, c_int, c_void};
 use std::mem::{offset_of, size_of};
 use std::ptr;
 
@@ -73,6 +73,9 @@ pub struct RawStatistics {
     reserved: [u64; 9],
 }
 
+/// The number of "Invalid argument" in errno.
+pub const EINVAL: c_int = 22;
+
 /// Panics if the library is of another version than this crate.
 pub fn check_version() {
     // SAFETY: the call takes nothing.
@@ -88,6 +91,9 @@ const _: () = {
 };
 
 extern "C" {
+    /// Of the C library: where a thread's errno is.
+    pub fn __errno_location() -> *mut c_int;
+
     pub fn likes_version() -> u32;
     pub fn likes_status_text(status: u32) -> *const c_char;
     pub fn likes_open(options: *const Numbers, driver: *mut Handle) -> u32;

@@ -76,13 +76,9 @@ impl Options<'_> {
             room: given(self.room),
             hot: match self.hot {
                 Hot::Usual => 0,
-                Hot::From(likes) => {
-                    if likes == NO_HOT {
-                        NO_HOT - 1
-                    } else {
-                        likes
-                    }
-                }
+                // Both have a meaning of their own in C. Here they are wrong numbers.
+                Hot::From(0 | NO_HOT) => NO_HOT - 1,
+                Hot::From(likes) => likes,
                 Hot::Never => NO_HOT,
             },
             period_us: self.period.map_or(0, microseconds),

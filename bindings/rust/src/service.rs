@@ -23,8 +23,10 @@ pub use writer::Writer;
 ///
 /// It ends with its drop; [`stop`](Self::stop) also gives its last moment.
 ///
-/// A thread that holds a seat ([`with_seat`](Self::with_seat)) makes no other call of the service: it is answered
-/// [`Error::HoldsSeat`], and never waits for itself.
+/// A thread that holds a seat ([`with_seat`](Self::with_seat)) never waits for itself: calls that could wait for a seat
+/// are answered [`Error::HoldsSeat`].
+///
+/// A thread's first call of a service takes memory, and so may a look: [`Error::NoMemory`], where there is none.
 #[derive(Debug)]
 pub struct Service {
     at: *mut RawService,
@@ -325,7 +327,8 @@ impl Service {
     /// # Errors
     ///
     /// [`Error::OpenWriter`], where a writer was leaked, as by [`mem::forget`](std::mem::forget). The service is leaked
-    /// then, too.
+    /// then, too. [`Error::NoMemory`], where this is the thread's first call and there is no memory. The service is
+    /// closed then.
     pub fn stop(self) -> Result<Ended, Error> {
         // SAFETY: the service is this thread's own.
         check(unsafe { ffi::likes_service_retire(self.at) })?;
@@ -345,9 +348,13 @@ impl Service {
     }
 }
 
-/// A path for C.
+/// A path for C, which would take what is before a byte 0 for the whole of it.
 fn path_of(path: &Path) -> Result<CString, Error> {
-    CString::new(path.as_os_str().as_bytes()).map_err(|_| Error::FileFault)
+    CString::new(path.as_os_str().as_bytes()).ok().ok_or_else(|| {
+        // SAFETY: errno is this thread's own.
+        unsafe { *ffi::__errno_location() = ffi::EINVAL };
+        Error::FileFault
+    })
 }
 
 impl Drop for Service {

@@ -94,6 +94,7 @@ fn wrong_openings_are_errors() {
         (Options { lasts: &[none, Last::of(1), none, none], ..right }, &[0], Error::WrongLasts),
         (Options { seats: Some(0), ..right }, &[0], Error::WrongSeats),
         (Options { room: Some(0), ..right }, &[0], Error::WrongRoom),
+        (Options { hot: Hot::From(0), ..right }, &[0], Error::WrongHot),
         (Options { hot: Hot::From(likes::MAX_HOT + 1), ..right }, &[0], Error::WrongHot),
         (Options { hot: Hot::From(u32::MAX), ..right }, &[0], Error::WrongHot),
     ];

@@ -1,5 +1,6 @@
 //! A service under threads.
 
+use std::io;
 use std::panic::{catch_unwind, AssertUnwindSafe};
 use std::sync::atomic::{AtomicBool, Ordering};
 use std::sync::Arc;
@@ -174,16 +175,21 @@ fn a_thread_that_holds_a_seat_never_waits_for_itself() {
             assert_eq!(service.glance(user, 0), Err(Error::HoldsSeat));
             assert_eq!(service.last(user), Err(Error::HoldsSeat));
         }
+        assert_eq!(service.like(4, 3), Err(Error::HoldsSeat));
         assert_eq!(service.counts(), Err(Error::HoldsSeat));
         assert_eq!(service.snapshot(), Err(Error::HoldsSeat));
         assert_eq!(service.propose(&[1]), Err(Error::HoldsSeat));
         assert_eq!(service.retire_seat(1), Err(Error::HoldsSeat));
+        service.tick();
+        assert!(service.writer().is_ok() && service.statistics().likes == 0);
         service.with_seat(1, |_| ())
     });
     assert_eq!(held, Ok(Err(Error::HoldsSeat)));
     let mut answers = [Answer::NONE];
     let done = service.with_seat(0, |seat| seat.run(&[Request::look(0, 0, 1 << 63)], &mut answers));
     assert_eq!((done, answers[0].outcome()), (Ok(1), Err(Error::WrongTag)));
+    let done = service.with_seat(0, |seat| seat.run(&[Request::look(0, 1, 1)], &mut answers));
+    assert_eq!((done, service.statistics().looks), (Ok(1), 0));
 }
 
 /// A look through a writer shows each like of its page that the writer was told, by whichever user.
@@ -208,7 +214,8 @@ fn a_writer_keeps_likes_of_a_seat_that_has_left() {
     let service = open(2, 4, 4);
     let mut writer = service.writer().unwrap();
     service.retire_seat(1).unwrap();
-    assert_eq!(service.like(1, 0), Err(Error::Gone));
+    assert_eq!([(1, 0), (1, 3), (5, 0)].map(|(user, page)| service.like(user, page)), [Err(Error::Gone); 3]);
+    assert_eq!(writer.like(1, 3), Err(Error::UnknownPage));
     writer.like(1, 0).unwrap();
     writer.like(2, 0).unwrap();
     assert_eq!(writer.flush(), Err(Error::Gone));
@@ -320,6 +327,7 @@ fn wrong_numbers_are_errors() {
     let right = options(2, 2, 4);
     assert_eq!(refused(Options { period: Some(Duration::ZERO), ..right }), Some(Error::WrongPeriod));
     assert_eq!(refused(Options { period: Some(Duration::from_secs(1001)), ..right }), Some(Error::WrongPeriod));
+    assert_eq!(refused(Options { period: Some(Duration::ZERO), users: 0, ..right }), Some(Error::WrongPeriod));
     assert_eq!(refused(Options { seats: Some(0), ..right }), Some(Error::WrongSeats));
     assert_eq!(refused(Options { users: 0, ..right }), Some(Error::WrongUsers));
     assert_eq!(Service::open(&right, &[]).err(), Some(Error::WrongPages));
@@ -361,5 +369,7 @@ fn a_file_has_a_moment() {
     assert!(matches!(Service::load(&path, &options(0), 0), Err(Error::NotSaved)));
     std::fs::remove_file(&path).unwrap();
     assert!(matches!(Service::load(&path, &options(0), 0), Err(Error::FileFault)));
+    assert_eq!(io::Error::last_os_error().kind(), io::ErrorKind::NotFound);
     assert!(matches!(Service::load("a\0b", &options(0), 0), Err(Error::FileFault)));
+    assert_eq!(io::Error::last_os_error().kind(), io::ErrorKind::InvalidInput);
 }
