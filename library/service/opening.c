@@ -97,13 +97,14 @@ uint32_t likes_service_open(const likes_options *options, likes_service **servic
     return status;
 }
 
-/* Has all seats leave, if they can, and makes a turn of the driver. */
+/* Has all seats leave, if they can, and makes a turn of the driver. Before it waits for `turning`, it wishes for a turn
+ * after the seats' work: who has `turning` may wait for that, to get counts. */
 static uint32_t leave(inner_member *member) {
     likes_service *service = member->service;
     for (uint32_t i = 0; i < service->seats; i++)
         service->seat[i].is_leaving = true;
     service->work = service->all;
-    inner_work(member);
+    inner_turns(member);
     pthread_mutex_lock(&service->turning);
     uint32_t status = inner_turn(member, LIKES_END_IF_IT_SERVES);
     inner_stir(member);

@@ -581,12 +581,17 @@ static void writer_beside_likes(void) {
     likes_writer_close(writer);
 }
 
-static void stop(void) {
+static void stop_now(void) {
     begin(USERS);
-    nap(US);
     begin_call("stop", 0);
     likes_service_retire(explored);
     end_call();
+}
+
+static void stop(void) {
+    begin(USERS);
+    nap(US);
+    stop_now();
 }
 
 const explore_case explore_cases[] = {
@@ -651,5 +656,6 @@ const explore_case explore_cases[] = {
     {"gone-held", gone, {take_counts_of_held, hold_gone_0, hold_gone_1}, 1, true, NULL},
     {"stop", split, {stop}, 2, false, NULL},
     {"stop-quiet", quiet, {stop}, 2, false, NULL},
+    {"stop-counts", quiet, {stop_now, take_counts}, 2, false, NULL},
     {NULL, NULL, {NULL}, 0, false, NULL},
 };
