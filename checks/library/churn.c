@@ -1,12 +1,15 @@
 /* Threads that come and go, at services that come and go, with every kind of call: single calls, looks with deadlines,
  * rows and calls through seats that they hold, writers, counts, snapshots, proposals, and seats that leave and come
  * back. Each call is answered as it may be, no call waits for ever, and each total is what all threads were told. At
- * first, a thread calls a service while it ends, from a destructor of its own.
+ * first, the program has all keys of threads for a while, and a thread calls a service while it ends, from a destructor
+ * of its own.
  *
  * usage: churn SEED SECONDS
  *
  * If something is wrong, it prints a line and exits with status 1. A signal ends it 30 seconds after its time. */
 #include "harness.h"
+
+#include <limits.h>
 
 enum { USERS = 60, PAGES = 4, THREADS = 6, CREWS = 3, STEPS = 150, HELD_STEPS = 30, ROW = 8, MS = 1000000 };
 
@@ -269,6 +272,23 @@ static void end_late(void) {
     service = NULL;
 }
 
+/* Calls are refused as long as the program has all keys. */
+static void take_keys(void) {
+    static const uint64_t none[PAGES];
+    static pthread_key_t keys[PTHREAD_KEYS_MAX];
+    int taken = 0;
+    likes_options options = {.seats = 1, .users = USERS};
+    hold(open_shared(options, none, PAGES, NULL, 0, NULL, 0, 1000, &service) == LIKES_OK, "not opened");
+    while (taken < PTHREAD_KEYS_MAX && pthread_key_create(&keys[taken], NULL) == 0)
+        taken++;
+    IS(likes_service_like(service, 1, 0), LIKES_NO_MEMORY);
+    while (taken > 0)
+        pthread_key_delete(keys[--taken]);
+    IS(likes_service_like(service, 1, 0), LIKES_LIKED);
+    IS(likes_service_close(service), LIKES_OK);
+    service = NULL;
+}
+
 int main(int count, char **words) {
     if (count != 3) {
         fputs("usage: churn SEED SECONDS\n", stderr);
@@ -277,6 +297,7 @@ int main(int count, char **words) {
     uint64_t random = strtoull(words[1], NULL, 10), seconds = strtoull(words[2], NULL, 10), services = 0;
     uint64_t end = clock_now() + seconds * UINT64_C(1000000000);
     alarm((unsigned)(30 + seconds));
+    take_keys();
     end_late();
     for (; clock_now() < end; services++)
         play(&random);

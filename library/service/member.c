@@ -7,7 +7,6 @@
 _Thread_local inner_thread inner_mine;
 
 static pthread_mutex_t lock = PTHREAD_MUTEX_INITIALIZER;
-static pthread_once_t once = PTHREAD_ONCE_INIT;
 static pthread_key_t key;
 static bool has_key;
 static inner_member *members;
@@ -25,8 +24,11 @@ static void end_thread(void *at) {
     memset(mine->members, 0, sizeof mine->members);
 }
 
-static void make_key(void) {
-    has_key = pthread_key_create(&key, end_thread) == 0;
+/* Has end_thread called when this thread ends: whether it will be. The program may have all keys for a while. With the
+ * lock. */
+static bool note_end(void) {
+    has_key = has_key || pthread_key_create(&key, end_thread) == 0;
+    return has_key && pthread_setspecific(key, &inner_mine) == 0;
 }
 
 /* A member with a new client. With the lock: so no other thread opens or closes a client. */
@@ -50,15 +52,8 @@ static inner_member *member_of(likes_service *service, uint64_t thread) {
     return member;
 }
 
-/* The thread takes a member once it is sure to give it back when it ends. */
-INNER_SELDOM inner_member *inner_member_find(likes_service *service) {
-    int error = errno;
-    pthread_once(&once, make_key);
-    if (!has_key || pthread_setspecific(key, &inner_mine) != 0) {
-        errno = error;
-        return NULL;
-    }
-    pthread_mutex_lock(&lock);
+/* Gives the thread a member. With the lock. */
+static inner_member *take(likes_service *service) {
     if (inner_mine.number == 0)
         inner_mine.number = ++numbers;
     inner_member *member = member_of(service, inner_mine.number);
@@ -71,6 +66,14 @@ INNER_SELDOM inner_member *inner_member_find(likes_service *service) {
         inner_mine.members[service->id % 8].id = service->id;
         inner_mine.members[service->id % 8].member = member;
     }
+    return member;
+}
+
+/* The thread takes a member once it is sure to give it back when it ends. */
+INNER_SELDOM inner_member *inner_member_find(likes_service *service) {
+    int error = errno;
+    pthread_mutex_lock(&lock);
+    inner_member *member = note_end() ? take(service) : NULL;
     pthread_mutex_unlock(&lock);
     errno = error;
     return member;

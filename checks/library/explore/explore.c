@@ -407,14 +407,6 @@ int explore_join(pthread_t of, void **result) {
     return 0;
 }
 
-int explore_once(pthread_once_t *once, void (*run)(void));
-int explore_once(pthread_once_t *once, void (*run)(void)) {
-    if (*(uint32_t *)once != 77)
-        run();
-    *(uint32_t *)once = 77;
-    return 0;
-}
-
 int explore_key(pthread_key_t *key, void (*end)(void *));
 int explore_key(pthread_key_t *key, void (*end)(void *)) {
     (void)end;
