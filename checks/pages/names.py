@@ -86,6 +86,18 @@ def unknown(named):
                     yield f"{page}: no source has {name}"
 
 
+def fieldless(named):
+    """The fields of records and cases in backquotes on these pages, as `IsReady.kept`, that no such definition has."""
+    found = {}
+    for module in specs.modules().values():
+        for name, (_, code) in module.defined.items():
+            found.setdefault(name, []).append("\n".join(code))
+    for page in named:
+        for name, field in sorted(set(re.findall(r"`([A-Z]\w+)\.(\w+)`", pages.text_of(page)))):
+            if name in found and not any(re.search(rf"^ +(?:pub )?{field} :", code, re.M) for code in found[name]):
+                yield f"{page}: no definition {name} has {field}"
+
+
 def astray():
     """What is wrong with the ways of a like: a step without such a name, or one that isn't defined in its file."""
     ways = WAY.findall(pages.text_of("docs/ARCHITECTURE.md"))

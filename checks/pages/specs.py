@@ -27,23 +27,39 @@ class Uses:
 
 
 class Module(Uses):
-    """A file of specs/: its first line, its definitions with their comments, and where the names it uses are from."""
+    """A file of specs/: its first line, its definitions with their comments, the variables of the blocks around each,
+    and where the names it uses are from."""
 
     def __init__(self, name, text):
         super().__init__(text)
         first = text.split("\n", 1)[0]
         self.name, self.about = name, first.removeprefix("-- ").rstrip(".") if first.startswith("-- ") else ""
-        self.defined = {}
+        self.defined, self.around = {}, {}
         self.cases = set(re.findall(r"^  ([\w-]+) :", text, re.M))
+        blocks = {}  # those around, by how far they are indented
         for part in re.split(r"\n\s*\n", text):
-            lines = [line for line in part.strip("\n").split("\n") if not line.startswith(("use ", "pub use "))]
+            lines = []
+            for line in part.strip("\n").split("\n"):
+                block = re.match(r"( *)module _ (.*) where$", line)
+                if block:
+                    lines, blocks = [], {**outside(blocks, len(block[1])), len(block[1]): block[2]}
+                elif not line.startswith(("use ", "pub use ")):
+                    lines.append(line)
+            indent = min((len(line) - len(line.lstrip()) for line in lines), default=0)
+            blocks, lines = outside(blocks, indent), [line[indent:] for line in lines]
             code = [line for line in lines if not line.startswith("--")]
             found = re.match(r"(?:abbrev |data |pub |record |unfoldable )+(\S+)", code[0] if code else "")
             if found:
                 self.defined[found[1]] = [line for line in lines if line.startswith("--")], code
+                self.around[found[1]] = list(blocks.values())
 
     def source_of(self, word):
         return (self.name, word) if word in self.defined else super().source_of(word)
+
+
+def outside(blocks, indent):
+    """The blocks around what is indented so far."""
+    return {far: variables for far, variables in blocks.items() if far < indent}
 
 
 def module_of(path):

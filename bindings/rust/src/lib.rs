@@ -20,9 +20,10 @@
 //! # Ok::<(), Error>(())
 //! ```
 //!
-//! A program that changes phases by itself opens a [`Driver`] and takes its [`Seat`]s and its [`Phase`]. All rules of
-//! `likes.h` are rules of types here: no call can be made by two threads at a time, and nothing is used after its end.
-//! One remains: while a phase is ending, each seat is called.
+//! A program that changes phases by itself opens a [`Driver`] and takes its [`Seat`]s and its [`Phase`]. The rules
+//! of `likes.h` are rules of types here: no call can be made by two threads at a time, and nothing is used after its end.
+//! Two remain: while a phase is ending, each seat is called; and no call is made from a signal handler, or in the child
+//! of a fork.
 //!
 //! What a call did comes as an enum, such as [`Like`] or [`Turn`], and a wrong number as [`Error`]. No number is cut:
 //! users and pages are `u32` here and in C.

@@ -100,8 +100,8 @@ AnswersAreReads =
     → IsUnused v → IsCallOf v now after t
     → IfShown (IsRead after) (IsGlanced now after) now t
 
--- the count has the page's first count, all that these seats added in earlier phases, and the seat's own likes of the
--- phase before; and nothing of a later phase
+-- the count has the page's first count, all that these seats added in earlier phases, and what the seat itself had
+-- counted in this phase before; and nothing of a later phase
 pub record IsWithinAdded (v : DriverView) (seats : List LiveView) (s : Shown) : Type 0 where
   pub least :
       slice_index v.lead.seat.opening.counts s.page + posts_before (posts_at seats) s.phase s.page + s.own ≤ s.count
