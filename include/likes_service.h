@@ -177,8 +177,8 @@ uint32_t likes_service_snapshot(likes_service *service, uint64_t *counts, size_t
  * one, which has the old one's mode, but not its owner, and replaces a symbolic link, not the link's target. Meanwhile
  * there is one of that name with ".new" behind it, in place of any other: let one process at a time save to a file. Or
  * nothing is changed: an answer of likes_service_snapshot, LIKES_NO_MEMORY or LIKES_FILE_FAULT. (LIKES_FILE_FAULT also
- * comes where there is the new file, but its folder can't be opened or brought to the disk.) Neither this call nor the
- * next is a cancellation point. */
+ * comes where there is the new file, but its folder can't be opened or brought to the disk. A folder, a device or a FIFO
+ * is not replaced.) Neither this call nor the next is a cancellation point. */
 uint32_t likes_service_save(likes_service *service, const char *path);
 
 /* Opens a service that goes on from such a file: LIKES_OK. The options have no counts and no last likes. Where their

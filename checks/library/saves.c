@@ -189,6 +189,18 @@ static void waits(int signal_number) {
     hold(false, "a call waits for a FIFO");
 }
 
+/* What is no file is not replaced, and nothing is left beside it. */
+static void not_replaced(const char *name, int fault) {
+    likes_service *service = opened();
+    uint32_t mode = mode_of(name);
+    char beside_it[1020];
+    snprintf(beside_it, sizeof beside_it, "%s.new", name);
+    hold(likes_service_save(service, name) == LIKES_FILE_FAULT && errno == fault, "what is no file is replaced");
+    IS(mode_of(name), mode);
+    hold(access(beside_it, F_OK) == -1, "a file is left");
+    IS(likes_service_close(service), LIKES_OK);
+}
+
 /* A folder, a device, and a FIFO, which nobody writes, and which keeps what it has: none is a saved file. */
 static void other_files(const char *folder) {
     likes_options options = {.seats = 1};
@@ -205,6 +217,11 @@ static void other_files(const char *folder) {
     hold(read(both, &byte, 1) == 1, "a FIFO was read");
     alarm(0);
     close(both);
+    not_replaced(fifo, EINVAL);
+    not_replaced(folder, EISDIR);
+    unlink(fifo);
+    hold(symlink("/dev/null", fifo) == 0, "no link");
+    not_replaced(fifo, EINVAL);
     unlink(fifo);
     IS(likes_service_load(folder, &options, &none), LIKES_NOT_SAVED);
     IS(likes_service_load("/dev/null", &options, &none), LIKES_NOT_SAVED);

@@ -5,18 +5,31 @@
 #define MOMENT UINT64_C(100000000)
 #define NAP UINT64_C(10000000)
 
-/* Writes the last likes of a seat's users into an array by user number, with the seat locked. That takes long where
- * there are many, and phases go on meanwhile. */
-static void write_lasts(inner_member *member, inner_seat *seat, uint32_t *lasts) {
-    uint32_t row[256], seats = member->service->seats, all = member->service->users;
-    uint32_t users = all / seats + (seat->number < all % seats);
-    for (uint32_t from = 0, length; from < users; from += length) {
-        length = users - from < 256 ? users - from : 256;
-        likes_client_lasts(&member->client, seat->number, from, row, length);
+/* How many last likes of a seat are read at a time. */
+enum { BLOCK = 1024 };
+
+static size_t users_of(const inner_seat *seat) {
+    const likes_service *service = seat->service;
+    return service->users / service->seats + (seat->number < service->users % service->seats);
+}
+
+/* Writes last likes of a seat, from one on, into an array by user number, with the seat locked. */
+static void write_block(inner_member *member, const inner_seat *seat, size_t from, uint32_t *lasts) {
+    uint32_t row[BLOCK], seats = seat->service->seats;
+    size_t left = users_of(seat) - from, length = left < BLOCK ? left : BLOCK;
+    likes_client_lasts(&member->client, seat->number, (uint32_t)from, row, length);
+    for (size_t i = 0; i < length; i++)
+        lasts[(from + i) * seats + seat->number] = row[i];
+}
+
+/* Writes all of them. That takes long where there are many, and phases go on meanwhile. */
+static void write_seat(inner_member *member, inner_seat *seat, uint32_t *lasts) {
+    inner_lock_until(member, seat, INNER_NEVER);
+    for (size_t from = 0; from < users_of(seat); from += BLOCK) {
+        write_block(member, seat, from, lasts);
         inner_after(member, seat);
-        for (uint32_t i = 0; i < length; i++)
-            lasts[(size_t)(from + i) * seats + seat->number] = row[i];
     }
+    inner_unlock(member, seat);
 }
 
 /* Ends a joined phase that all seats have left: one that is free comes back, and leaves again once the end is announced.
@@ -83,19 +96,28 @@ static uint32_t go_to_moment(inner_member *member, uint64_t *counts, size_t page
     }
 }
 
-/* Writes all last likes. With `seen`, it gives up once a seat is locked for long. Who has locked one lets others
+/* Writes a block of each seat's last likes. It gives up once a seat is locked for long. Who has locked one lets others
  * have it soon, if it waits for a phase in a call of the service. */
-static uint32_t write_all_lasts(inner_member *member, uint32_t *lasts, sighting *seen) {
+static uint32_t write_blocks(inner_member *member, size_t from, uint32_t *lasts, sighting *seen) {
     likes_service *service = member->service;
     for (uint32_t number = 0; number < service->seats; number++) {
         inner_seat *seat = &service->seat[number];
-        while (!inner_lock_until(member, seat, seen != NULL ? inner_clock() + NAP : INNER_NEVER))
+        while (!inner_lock_until(member, seat, inner_clock() + NAP))
             if (is_locked_long(service, seen))
                 return LIKES_NO_MOMENT;
-        write_lasts(member, seat, lasts);
+        write_block(member, seat, from, lasts);
         inner_unlock(member, seat);
     }
     return LIKES_COUNTED;
+}
+
+/* Writes all last likes of a moment, by blocks of all seats, so that each line of the array is fetched once: all calls
+ * wait meanwhile. */
+static uint32_t write_lasts(inner_member *member, uint32_t *lasts, sighting *seen) {
+    uint32_t status = LIKES_COUNTED;
+    for (size_t from = 0; from < users_of(member->service->seat) && status == LIKES_COUNTED; from += BLOCK)
+        status = write_blocks(member, from, lasts, seen);
+    return status;
 }
 
 /* Writes counts, and last likes too where an array is given. */
@@ -107,7 +129,7 @@ static uint32_t write_moment(inner_member *member, uint64_t *counts, size_t page
     pthread_mutex_lock(&service->turning);
     uint32_t status = go_to_moment(member, counts, pages, lasts != NULL ? seen : NULL);
     if (status == LIKES_COUNTED && lasts != NULL)
-        status = write_all_lasts(member, lasts, seen);
+        status = write_lasts(member, lasts, seen);
     inner_stir(member);
     return status;
 }
@@ -115,9 +137,11 @@ static uint32_t write_moment(inner_member *member, uint64_t *counts, size_t page
 uint32_t likes_service_lasts(likes_service *service, uint32_t *lasts, size_t users) {
     inner_member *member;
     uint32_t fault = inner_enter(service, likes_is_missing(lasts, users), &member);
-    if (fault == LIKES_OK && users == service->users)
-        write_all_lasts(member, lasts, NULL);
-    return fault == LIKES_OK && users != service->users ? (uint32_t)LIKES_WRONG_LENGTH : fault;
+    if (fault == LIKES_OK && users != service->users)
+        return LIKES_WRONG_LENGTH;
+    for (uint32_t number = 0; fault == LIKES_OK && number < service->seats; number++)
+        write_seat(member, &service->seat[number], lasts);
+    return fault;
 }
 
 uint32_t likes_service_counts(likes_service *service, uint64_t *counts, size_t pages) {

@@ -79,15 +79,17 @@ static bool keep_name(const char *path) {
 static pthread_mutex_t replacing = PTHREAD_MUTEX_INITIALIZER;
 
 /* Writes a file beside the old one, and then gives it the old one's name: so after a crash there is one of the two.
- * What was beside it, from a crash or from others, is removed and not opened: it may be a link to any file. */
+ * What was beside it, from a crash or from others, is removed and not opened: it may be a link to any file. A device isn't
+ * replaced. */
 static bool replace(const char *path, const saved *it) {
     char beside[4096];
     struct stat old;
-    if ((size_t)snprintf(beside, sizeof beside, "%s.new", path) >= sizeof beside) {
-        errno = ENAMETOOLONG;
+    bool is_new = stat(path, &old) != 0;
+    bool is_long = (size_t)snprintf(beside, sizeof beside, "%s.new", path) >= sizeof beside;
+    if (is_long || (!is_new && !S_ISREG(old.st_mode))) {
+        errno = is_long ? ENAMETOOLONG : S_ISDIR(old.st_mode) ? EISDIR : EINVAL;
         return false;
     }
-    bool is_new = stat(path, &old) != 0 || !S_ISREG(old.st_mode);
     mode_t mode = is_new ? 0666 : old.st_mode & 0777;
     unlink(beside);
     int at = open(beside, O_WRONLY | O_CREAT | O_EXCL | O_CLOEXEC, mode);
@@ -115,6 +117,9 @@ uint32_t likes_service_save(likes_service *service, const char *path) {
     it.head.users = service->users;
     status = take(&it, it.head.pages, it.head.users) ? (uint32_t)LIKES_OK : (uint32_t)LIKES_NO_MEMORY;
     errno = error;
+    /* The system gives memory as it is touched: here, since all calls wait while last likes are read. */
+    if (status == LIKES_OK)
+        memset(it.lasts, 0, it.head.users * sizeof *it.lasts);
     if (status == LIKES_OK)
         status = likes_service_snapshot(service, it.counts, it.head.pages, it.lasts, it.head.users);
     if (status == LIKES_COUNTED) {
