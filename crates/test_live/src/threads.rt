@@ -11,7 +11,7 @@ use like_choice::Guided;
 use like_live::{Driver, DriverAnswer, End, LikeAnswer, LiveSeat, LookAnswer, TurnAnswer};
 use std::process::Abort;
 use std::test::Fail;
-use std::thread::{Threads, join_mut};
+use std::thread::{Threads, join_mut, yield_now};
 
 // How many likes a seat's thread makes.
 const LIKES: u64 = 10_000;
@@ -83,7 +83,7 @@ fn work_at(seat: &mut LiveSeat<SharedPost>, user: u32) -> Done
     done
 }
 
-/// The driver's thread.
+/// The driver's thread. Between two turns it lets a seat's thread work, where they share a processor.
 pub fn drive(driver: &mut Driver<Guided>)
     ensures { IsSameDriver driver.old driver.new }
 {
@@ -91,6 +91,7 @@ pub fn drive(driver: &mut Driver<Guided>)
         if driver.turn(End::IfItServes) == DriverAnswer::Ended {
             break;
         }
+        yield_now();
     }
 }
 
