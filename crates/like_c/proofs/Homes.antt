@@ -1,11 +1,13 @@
 -- Handles whose homes are alike.
-use Rattle.std.proofs.Common.{◌≡◌, ℕ, ◌<◌, List, get_or, length, map, ap, sym, subst, ◌∙◌}
+use Rattle.std.proofs.Common.{◌≡◌, ℕ, ◌<◌, List, get_or, length, map, take, ap, sym, subst, ◌∙◌}
+use Rattle.std.specs.List.{All}
 use Rattle.std.specs.Option.{option_map}
 use Rattle.std.proofs.lemmas.List.{get_or-map, length-map}
 use Rattle.std.proofs.lemmas.Option.{slice_get-get_or}
 use Rattle.std.proofs.lemmas.Simd.{map-map}
 use Rattle.like_c.specs.Closes.{HoldsGone, PreventEnd, PreventsEnd, home_of, is_empty, is_other, is_there, live_in, one_prevents}
 use Rattle.like_c.specs.declared.opened.BoxedSeat.{BoxedSeat}
+use Rattle.like_c.specs.declared.opened.Opened.{Opened}
 use Rattle.like_c.specs.declared.seat_handle.SeatHandle.{SeatHandle}
 
 -- they are as many
@@ -41,8 +43,9 @@ prevents-too h like why same (is_there b held there is) = is_there b (same ∙ h
 prevents-too h like why same (is_other is) = is_other is
 
 -- what prevents the end in one's handle prevents it in the other's
-pub prevents-at : (xs ys : List SeatHandle) (i : ℕ) (d e : SeatHandle) (why : ℕ) → map home_of xs ≡ map home_of ys
-    → i < length xs → PreventsEnd (get_or ys i e) why → PreventEnd xs why
-prevents-at xs ys i d e why same below prevents =
-    one_prevents i (get_or xs i d) (slice_get-get_or xs i d below)
+pub prevents-at : (o : Opened) (xs ys : List SeatHandle) (i : ℕ) (d e : SeatHandle) (why : ℕ)
+    → map home_of xs ≡ map home_of ys → i < length xs → All HoldsGone (take i xs) → PreventsEnd (get_or ys i e) why
+    → PreventEnd o xs why
+prevents-at o xs ys i d e why same below gone prevents =
+    one_prevents i (get_or xs i d) gone (slice_get-get_or xs i d below)
     (prevents-too (get_or ys i e) (get_or xs i d) why (home-at xs ys i d e same below) prevents)

@@ -1,5 +1,5 @@
 -- The end of a service, whose driver and seats a host hands back together.
-use Rattle.std.specs.Prelude.{◌≡◌, ◌≢◌, ℕ, List, All, length, map, slice_get, Option, Some, None}
+use Rattle.std.specs.Prelude.{◌≡◌, ◌≢◌, ℕ, List, All, length, map, slice_get, take, Option, Some, None, vec_capacity}
 use Rattle.std.specs.Option.{option_map}
 use Rattle.like_core.specs.declared.worker_state.WorkerState.TheVariants.{Gone}
 use Rattle.like_live.specs.LiveView.{LiveView}
@@ -40,12 +40,12 @@ pub data PreventsEnd (h : SeatHandle) (result : ℕ) : Type 0 where
       → PreventsEnd h result
   is_other : result ≡ status.wrong_seats → PreventsEnd h result
 
--- why a service can't be closed with the seats in these handles: one prevents it, or they aren't as many as the
--- driver's
-pub data PreventEnd (handles : List SeatHandle) (result : ℕ) : Type 0 where
-  one_prevents : (i : ℕ) (h : SeatHandle) → slice_get handles i ≡ Some h → PreventsEnd h result
-      → PreventEnd handles result
-  not_as_many : result ≡ status.wrong_seats → PreventEnd handles result
+-- why a service can't be closed with the seats in these handles: the first that prevents it, or they aren't as many as
+-- the driver's, for which there is room
+pub data PreventEnd (o : Opened) (handles : List SeatHandle) (result : ℕ) : Type 0 where
+  one_prevents : (i : ℕ) (h : SeatHandle) → All HoldsGone (take i handles) → slice_get handles i ≡ Some h
+      → PreventsEnd h result → PreventEnd o handles result
+  not_as_many : length handles ≢ vec_capacity o.back → result ≡ status.wrong_seats → PreventEnd o handles result
 
 -- nothing is done: the counts are as they were, and each handle holds what it held
 pub record StaysOpen (at after : Option Opened) (handles left : List SeatHandle) (old counts : List ℕ) : Type 0 where
@@ -63,7 +63,8 @@ pub data ClosesAt (at : Option Opened) (handles : List SeatHandle) (old : List �
   close_pages : (o : Opened) → at ≡ Some o → length old ≢ length o.driver.lead.seat.opening.counts
       → result ≡ status.wrong_pages → StaysOpen at after handles left old counts
       → ClosesAt at handles old result counts after left
-  close_prevented : (o : Opened) → at ≡ Some o → PreventEnd handles result → StaysOpen at after handles left old counts
+  close_prevented : (o : Opened) → at ≡ Some o → length old ≡ length o.driver.lead.seat.opening.counts
+      → PreventEnd o handles result → StaysOpen at after handles left old counts
       → ClosesAt at handles old result counts after left
   closes : (o : Opened) (seats : List LiveView) → at ≡ Some o → AreHeldBy handles seats → AreGone seats
       → IsClosedService o.driver seats counts → result ≡ status.counted → after ≡ None

@@ -1,5 +1,5 @@
 -- What a service is opened with from C.
-use Rattle.std.specs.Prelude.{◌≡◌, ◌==◌, if◌then◌else◌, ℕ, List, [], map, reverse, IsSome, Option, Some, None}
+use Rattle.std.specs.Prelude.{◌≡◌, ◌==◌, if◌then◌else◌, ℕ, List, [], length, map, reverse, IsSome, Option, Some, None, vec_capacity}
 use Rattle.like_live.specs.declared.opening.Opening.{Opening}
 use Rattle.like_live.specs.Opening.{Asking, asking}
 use Rattle.like_live.specs.Service.{AreOpened}
@@ -30,11 +30,12 @@ asked_of options counts marks lasts = record {
 abbrev pub seat_in : Box BoxedSeat Global → LiveView
 seat_in b = b.value.live
 
--- a service was opened as is asked for, and these are its driver, its seats, the first one last, and its
--- phase
+-- a service was opened as is asked for, and these are its driver, its seats, the first one last, room for them at the
+-- end, and its phase
 pub record IsOpenedAs (asked : Asking) (it : Opened) : Type 0 where
   pub opening : Opening
   pub asks : asking opening ≡ asked
   pub opened : AreOpened opening it.driver (reverse (map seat_in it.seats.items))
   pub told : it.driver.splits.told ≡ []
+  pub room : vec_capacity it.back ≡ length it.seats.items
   pub phase : IsSome it.phase

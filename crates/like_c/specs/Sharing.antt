@@ -1,13 +1,14 @@
 -- A service that threads share, from its opening to its end, and what likes.h tells of it.
 use Rattle.std.specs.Arc.{arc_value}
 use Rattle.std.specs.Global.{Global}
-use Rattle.std.specs.Prelude.{◌≡◌, ◌≢◌, ◌⊎◌, ℕ, false, length, replicate, List, [], IsSome, Option, Some, None}
+use Rattle.std.specs.Prelude.{◌≡◌, ◌≢◌, ◌⊎◌, ℕ, ◌+◌, false, length, replicate, List, [], ◌∷◌, IfSome, IsSome, Option, Some, None}
 use Rattle.std_alloc.specs.declared.boxed.Box.{Box}
-use Rattle.told_lock.specs.Rights.{first_of, told_of}
+use Rattle.told_lock.specs.Rights.{first_of, log_of, told_of}
 use Rattle.like_live.specs.declared.open_error.OpenError.{OpenError}
 use Rattle.like_live.specs.declared.opening.Opening.{Opening}
 use Rattle.like_live.specs.Opening.{Asking, IsRefusedFor, asking}
 use Rattle.like_live.specs.Service.{AreOpened}
+use Rattle.like_shared.specs.declared.desk.DeskDeed.TheVariants.{Made}
 use Rattle.like_shared.specs.declared.hub.Hub.{Hub}
 use Rattle.like_shared.specs.Hubs.{IsClosedHub}
 use Rattle.like_shared.specs.Shared.{IsUnused, driver_log, first_driver, first_seats, held_by, pages_of, seat_logs, seats_of}
@@ -55,28 +56,30 @@ pub record KeepsShared (b c : BoxedShared) : Type 0 where
   pub hub : c.hub ≡ b.hub
   pub phase : c.phase ≡ b.phase
 
--- a new client of this service, with a card: it has told nothing, and holds no seat
+-- a new client of this service, and its card, which only made it: it has told nothing, and holds no seat
 pub record IsNewClient (b : BoxedShared) (c : BoxedClient) : Type 0 where
   pub hub : hub_of c ≡ shared_hub b
   pub seats : seat_logs c.client ≡ replicate (seats_of (shared_hub b).service) []
   pub driver : driver_log c.client ≡ []
   pub held : held_by c.client ≡ replicate (seats_of (shared_hub b).service) false
   pub card : IsSome c.card
+  pub made : IfSome c.card (λ card. log_of card ≡ Made ∷ [])
 
 -- why no client is made: another thread is at the desk, or there is no memory
 abbrev pub IsNoClient : ℕ → Type 0
 IsNoClient result = (result ≡ status.busy) ⊎ (result ≡ status.no_memory)
 
--- a client is made, into an empty handle, or not
+-- a client is made, into an empty handle, or not. Cards for the desk are out for clients alone
 pub data OpensClient (from : Option BoxedShared) (to : Option BoxedClient) (result : ℕ) (left : Option BoxedShared)
     (after : Option BoxedClient) : Type 0 where
   client_in_use : to ≢ None → result ≡ status.in_use → left ≡ from → after ≡ to → OpensClient from to result left after
   client_empty : to ≡ None → from ≡ None → result ≡ status.empty → left ≡ None → after ≡ None
       → OpensClient from to result left after
-  client_none : (b d : BoxedShared) → to ≡ None → from ≡ Some b → KeepsShared b d → IsNoClient result → left ≡ Some d
-      → after ≡ None → OpensClient from to result left after
-  client_made : (b d : BoxedShared) (c : BoxedClient) → to ≡ None → from ≡ Some b → KeepsShared b d → IsNewClient b c
-      → result ≡ status.ok → left ≡ Some d → after ≡ Some c → OpensClient from to result left after
+  client_none : (b d : BoxedShared) → to ≡ None → from ≡ Some b → KeepsShared b d → d.cards.out ≡ b.cards.out
+      → IsNoClient result → left ≡ Some d → after ≡ None → OpensClient from to result left after
+  client_made : (b d : BoxedShared) (c : BoxedClient) → to ≡ None → from ≡ Some b → KeepsShared b d
+      → d.cards.out ≡ b.cards.out + 1 → IsNewClient b c → result ≡ status.ok → left ≡ Some d → after ≡ Some c
+      → OpensClient from to result left after
 
 -- a client is parked, and its handle is empty; or another thread is at the desk, and the client stays, with its card
 pub data ClosesClient (at : Option BoxedClient) (result : ℕ) (after : Option BoxedClient) : Type 0 where
@@ -85,11 +88,12 @@ pub data ClosesClient (at : Option BoxedClient) (result : ℕ) (after : Option B
       → (IsSome b.card → IsSome c.card) → after ≡ Some c → ClosesClient at result after
   parks : (b : BoxedClient) → at ≡ Some b → result ≡ status.ok → after ≡ None → ClosesClient at result after
 
--- the phase is taken, or it was taken before
+-- the phase is taken, or it was taken before, and nothing else is done
 pub data TakesSharedPhase (b : BoxedShared) (taken : Option BoxedPhase) (d : BoxedShared) : Type 0 where
-  phase_gone : b.phase ≡ None → taken ≡ None → d.hub ≡ b.hub → d.phase ≡ None → TakesSharedPhase b taken d
+  phase_gone : b.phase ≡ None → taken ≡ None → d.hub ≡ b.hub → d.cards ≡ b.cards → d.phase ≡ None
+      → TakesSharedPhase b taken d
   phase_there : (it : Box BoxedPhase Global) → b.phase ≡ Some it → taken ≡ Some it.value → d.hub ≡ b.hub
-      → d.phase ≡ None → TakesSharedPhase b taken d
+      → d.cards ≡ b.cards → d.phase ≡ None → TakesSharedPhase b taken d
 
 -- the phase is handed out into an empty handle
 pub data HandsSharedPhase (from : Option BoxedShared) (to : Option BoxedPhase) (result : ℕ) (left : Option BoxedShared)
@@ -103,9 +107,13 @@ pub data HandsSharedPhase (from : Option BoxedShared) (to : Option BoxedPhase) (
   phase_taken : (b d : BoxedShared) (p : BoxedPhase) → to ≡ None → from ≡ Some b → TakesSharedPhase b (Some p) d
       → result ≡ status.ok → left ≡ Some d → after ≡ Some p → HandsSharedPhase from to result left after
 
--- why a service isn't closed: a client is open, not all seats are gone, or there is no memory
+-- why a service is lost: a client is open, or not all seats are gone
+abbrev pub IsLost : ℕ → Type 0
+IsLost result = (result ≡ status.open_client) ⊎ (result ≡ status.not_ended)
+
+-- why it isn't closed: so it would be lost, or there is no memory
 abbrev pub IsNoEnd : ℕ → Type 0
-IsNoEnd result = (result ≡ status.open_client) ⊎ (result ≡ status.not_ended) ⊎ (result ≡ status.no_memory)
+IsNoEnd result = IsLost result ⊎ (result ≡ status.no_memory)
 
 -- a service is closed, with what is known of a closed hub; or it stays open, or is lost with a client, and the counts are
 -- as they were
@@ -115,9 +123,9 @@ pub data ClosesShared (at : Option BoxedShared) (old : List ℕ) (result : ℕ) 
       → ClosesShared at old result counts after
   close_pages : (b : BoxedShared) → at ≡ Some b → length old ≢ pages_of (shared_hub b).service
       → result ≡ status.wrong_pages → counts ≡ old → after ≡ at → ClosesShared at old result counts after
-  close_stays : (b d : BoxedShared) → at ≡ Some b → IsNoEnd result → counts ≡ old → KeepsShared b d
-      → after ≡ Some d → ClosesShared at old result counts after
-  close_lost : (b : BoxedShared) → at ≡ Some b → IsNoEnd result → counts ≡ old → after ≡ None
-      → ClosesShared at old result counts after
+  close_stays : (b d : BoxedShared) → at ≡ Some b → length old ≡ pages_of (shared_hub b).service → IsNoEnd result
+      → counts ≡ old → KeepsShared b d → after ≡ Some d → ClosesShared at old result counts after
+  close_lost : (b : BoxedShared) → at ≡ Some b → length old ≡ pages_of (shared_hub b).service → IsLost result
+      → counts ≡ old → after ≡ None → ClosesShared at old result counts after
   closes_hub : (b : BoxedShared) → at ≡ Some b → IsClosedHub (shared_hub b) counts → result ≡ status.counted
       → after ≡ None → ClosesShared at old result counts after

@@ -2,7 +2,7 @@
 ghost use Rattle.std.specs.Arc.{arc_value};
 ghost use Rattle.std.specs.Prelude.{◌≡◌, ◌++◌, ◌+◌, ◌≤◌, ◌↔◌, [], ◌∷◌, IfErr, IfOk, IsSome, IsTrue, MatchOption, MatchResult, false, length, replicate};
 ghost use Rattle.told_lock.specs.Rights.{IsIdle, log_of};
-ghost use Rattle.like_shared.specs.declared.desk.DeskDeed.TheVariants.{Parked};
+ghost use Rattle.like_shared.specs.declared.desk.DeskDeed.TheVariants.{Made, Parked};
 ghost use Rattle.like_shared.specs.Hubs.{IsAtDesk};
 ghost use Rattle.like_shared.specs.Shared.{IsClient, driver_log, held_by, pages_of, seat_logs, seats_of};
 ghost use Rattle.like_c.specs.Cards.{IsCard};
@@ -38,6 +38,7 @@ impl BoxedClient {
     ) -> Result<Box<BoxedClient, Global>, u32>
         requires { IsIdle (arc_value hub).desk card.old }
         ensures left { IsIdle (arc_value hub).desk card.new }
+        ensures made { IfOk result (λ _. log_of card.new ≡ log_of card.old ++ Made ∷ []) }
         ensures hub { IfOk result (λ b. hub_of b.value ≡ arc_value hub) }
         ensures logs { IfOk result
             (λ b. seat_logs b.value.client ≡ replicate (seats_of (arc_value hub).service) []) }

@@ -1,6 +1,6 @@
 //! A service that threads share, as it lies behind a handle.
 ghost use Rattle.std.specs.Arc.{arc_value};
-ghost use Rattle.std.specs.Prelude.{◌≡◌, IfErr, IfOk, IsSome, OnOk, length};
+ghost use Rattle.std.specs.Prelude.{◌≡◌, ◌+◌, IfErr, IfOk, IsSome, MatchResult, OnOk, length};
 ghost use Rattle.std.specs.Option.{option_map};
 ghost use Rattle.told_lock.specs.Rights.{IsKeeper};
 ghost use Rattle.like_live.specs.Opening.{IsRefusedFor};
@@ -29,7 +29,7 @@ pub struct BoxedShared {
 
 impl BoxedShared {
     ghost use Rattle.like_c.specs.Opened.{asked_of};
-    ghost use Rattle.like_c.specs.Sharing.{IsNewClient, IsNoClient, IsNoEnd, IsSharedAs, KeepsShared, TakesSharedPhase, shared_hub};
+    ghost use Rattle.like_c.specs.Sharing.{IsLost, IsNewClient, IsNoClient, IsNoEnd, IsSharedAs, KeepsShared, TakesSharedPhase, shared_hub};
 
     /// Opens a service. Every number is tested before any memory is taken. The phase is boxed here, so that handing it
     /// out takes no memory.
@@ -96,6 +96,8 @@ impl BoxedShared {
         ensures made { IfOk result (λ c. IsNewClient self.old c.value) }
         ensures refused { IfErr result IsNoClient }
         ensures keeps { KeepsShared self.old self.new }
+        ensures out { MatchResult result (λ _. self.new.cards.out ≡ self.old.cards.out + 1)
+            (λ _. self.new.cards.out ≡ self.old.cards.out) }
     {
         if self.cards.out == u64::MAX {
             return Err(status::NO_MEMORY);
@@ -104,9 +106,16 @@ impl BoxedShared {
             return Err(status::NO_MEMORY);
         };
         let mut card = self.hub.new_card(&mut self.cards);
-        let mut client = BoxedClient::new(alloc, hub, &mut card)?;
-        client.card = Some(card);
-        Ok(client)
+        match BoxedClient::new(alloc, hub, &mut card) {
+            Ok(mut client) => {
+                client.card = Some(card);
+                Ok(client)
+            }
+            Err(refused) => {
+                self.hub.take_card(&mut self.cards, card);
+                Err(refused)
+            }
+        }
     }
 
     /// Whether its service can end, since no client is open, and all seats are gone. `Err`: a status says why not.
@@ -133,7 +142,7 @@ impl BoxedShared {
     pub(crate) fn end(self, counts: &mut [u64]) -> Result<(), u32>
         requires { length counts.old ≡ pages_of (shared_hub self).service }
         ensures closed { OnOk result (IsClosedHub (shared_hub self) counts.new) }
-        ensures refused { IfErr result IsNoEnd }
+        ensures refused { IfErr result IsLost }
         ensures unchanged { IfErr result (λ _. counts.new ≡ counts.old) }
     {
         let BoxedShared { hub, .. } = self;

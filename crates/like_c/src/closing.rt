@@ -16,7 +16,7 @@ use std::alloc::Global;
 pub(crate) fn check_seats(opened: &Opened, seats: &mut [SeatHandle]) -> Result<(), u32>
     ensures gone { IfOk result (λ _. All HoldsGone seats.old) }
     ensures room { IfOk result (λ _. length seats.old ≤ vec_capacity opened.now.back) }
-    ensures refused { IfErr result (PreventEnd seats.old) }
+    ensures refused { IfErr result (PreventEnd opened.now seats.old) }
     ensures same { map home_of seats.new ≡ map home_of seats.old }
 {
     if seats.len() != opened.back.capacity() {

@@ -1,5 +1,5 @@
 //! What is behind the handles.
-ghost use Rattle.std.specs.Prelude.{◌≡◌, IfErr, IfOk, IsSome, MatchResult, map, reverse};
+ghost use Rattle.std.specs.Prelude.{◌≡◌, IfErr, IfOk, IsSome, MatchResult, length, map, reverse, vec_capacity};
 ghost use Rattle.like_live.specs.Opening.{AreWithinLimits, IsFirstWrong, IsRefusedFor, asking};
 ghost use Rattle.like_c.specs.Opened.{IsOpenedAs, asked_of, hot_of, seat_in};
 
@@ -73,7 +73,7 @@ impl Opened {
     fn of_service(alloc: Global, service: Service<Guided>) -> Result<Box<Opened, Global>, OpenError>
         ensures opened { IfOk result (λ b. (b.value.driver ≡ service.driver)
             × (reverse (map seat_in b.value.seats.items) ≡ service.seats.items)
-            × IsSome b.value.phase) }
+            × (vec_capacity b.value.back ≡ length b.value.seats.items) × IsSome b.value.phase) }
         ensures refused { IfErr result (λ error. error ≡ OpenError.Memory) }
     {
         let Service { driver, seats } = service;

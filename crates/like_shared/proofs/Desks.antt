@@ -43,6 +43,7 @@ one-service s other k l this that after =
       whole = this.whole;
       seats = one-list s.seats.items other.seats.items k.seats.items l.seats.items this.seats that.seats after.seats;
       driver = one-lock s.driver other.driver k.driver l.driver this.driver that.driver after.driver;
+      out = after.out;
       none = after.none;
       room = omega (arith, one, two, after.room);
     }

@@ -93,6 +93,7 @@ service-keeper-prop s k p q = λ i. record {
   seats = zip-prop IsKeeper (λ lock x. keeper-prop (seat-set k x) lock x) s.seats.items k.seats.items p.seats q.seats
       i;
   driver = keeper-prop (driver-set k) s.driver k.driver p.driver q.driver i;
+  out = Π_prop (λ i. Π_prop (λ d. Π_prop (λ less. Coded-set coded_ℕ _ _))) p.out q.out i;
   none = empty-prop k.back.items p.none q.none i;
   room = le_prop p.room q.room i;
 }

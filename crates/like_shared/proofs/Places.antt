@@ -1,8 +1,10 @@
 -- Locks, passes and keepers, place by place.
-use Rattle.std.proofs.Common.{◌≡◌, ℕ, zero, suc, ◌+◌, ◌<◌, List, [], ◌∷◌, ◌++◌, get_or, length, map, set, take, sym, ap, ◌∙◌, subst, arith}
-use Rattle.std.specs.List.{AllZip}
-use Rattle.std.proofs.lemmas.List.{get_or-map, map-set, set-get_or, take_more}
+use Rattle.std.proofs.Common.{◌≡◌, ℕ, zero, suc, ◌+◌, ◌<◌, List, [], ◌∷◌, ◌++◌, ◌≤◌, get_or, length, map, set, take, sym, ap, ◌∙◌, subst, arith}
+use Rattle.std.specs.List.{All, AllZip}
+use Rattle.std.proofs.lemmas.List.{get_or-map, get_or-set_same, length-set, map-set, set-get_or, take-set, take_all, take_more}
+use Rattle.std.proofs.lemmas.List.Elements.{All-get_or, All-more}
 use Rattle.std.proofs.lemmas.Slice.Zip.{all_zipped_more}
+use Rattle.told_lock.specs.declared.keeper.Keeper.{Keeper}
 
 module _ {A B : Type 0} (R : A → B → Type 0) where
   -- what is so of two lists is so of what is read at a place
@@ -39,3 +41,24 @@ module _ {A B : Type 0} (f : A → B) where
       → map f (set xs i y) ≡ map f xs
   map-alike xs i x y less at is =
       map-set f xs i y ∙ ap (set (map f xs) i) (is ∙ sym (map-read xs i x (f x) less at)) ∙ set-get_or (map f xs) i (f x)
+
+module _ {A : Type 0} (P : A → Type 0) where
+  -- what is so before a place, and of what is written there
+  pub all-set : (xs : List A) (i : ℕ) (y : A) → i < length xs → All P (take i xs) → P y
+      → All P (take (i + 1) (set xs i y))
+  all-set xs i y less all is =
+      All-more P (set xs i y) i y (omega (arith, length-set xs i y)) (subst (All P) (sym (take-set xs i y)) all)
+      (subst P (sym (get_or-set_same xs i y y less)) is)
+
+  -- at the end that is so of all
+  pub all-whole : (xs : List A) (i : ℕ) → length xs ≤ i → All P (take i xs) → All P xs
+  all-whole xs i long = subst (All P) (take_all i xs long)
+
+-- so many passes of a keeper are out
+abbrev pub IsOut : {T C : Type 0} → ℕ → Keeper T C → Type 0
+IsOut n k = k.out ≡ n
+
+-- the keeper at a place that wasn't written yet
+pub out-at : {T C : Type 0} (before now : List (Keeper T C)) (n i : ℕ) (k : Keeper T C) → i < length before
+    → All (IsOut n) before → get_or now i k ≡ get_or before i k → (get_or now i k).out ≡ n
+out-at before now n i k less all same = ap (λ x. x.out) same ∙ All-get_or (IsOut n) before i k less all

@@ -1,5 +1,5 @@
 -- What a hub's calls do at its desk, and its end.
-use Rattle.std.specs.Prelude.{ℕ, List, [], ◌∷◌, Result, Err, ⊤}
+use Rattle.std.specs.Prelude.{ℕ, List, [], ◌∷◌, Result, Ok, Err, ⊤}
 use Rattle.told_lock.specs.Deeds.{HasRun, Leads, Named}
 use Rattle.told_lock.specs.Rights.{IsHolding, first_of}
 use Rattle.told_lock.specs.declared.pass.Pass.{Pass}
@@ -8,8 +8,6 @@ use Rattle.like_shared.specs.declared.desk.DeskDeed.TheVariants.{Made}
 use Rattle.like_shared.specs.declared.hub.Hub.{Hub}
 use Rattle.like_shared.specs.declared.hub.HubNotClosed.{HubNotClosed}
 use Rattle.like_shared.specs.declared.hub.HubNotClosed.TheVariants.{DeskTaken, Open}
-use Rattle.like_shared.specs.declared.hub.NoClient.{NoClient}
-use Rattle.like_shared.specs.declared.hub.NoClient.TheVariants.{Busy}
 use Rattle.like_shared.specs.declared.service.NotClosed.{NotClosed}
 use Rattle.like_shared.specs.declared.service.ServiceKeeper.{ServiceKeeper}
 use Rattle.like_shared.specs.Closed.{IsClosedShared, IsNotClosed}
@@ -20,10 +18,10 @@ use Rattle.like_shared.specs.Shared.{IsServiceKeeper}
 abbrev pub IsAtDesk : Hub → Pass ServiceKeeper DeskDeed → Type 0
 IsAtDesk h card = (k : ServiceKeeper) × IsHolding h.desk card k k × IsServiceKeeper h.service k
 
--- what a call for a client does at the desk: nothing, if another thread was there
-abbrev pub done_for : {A : Type 0} → Result A NoClient → List DeskDeed
-done_for (Err Busy) = []
-done_for result = Made ∷ []
+-- what a call for a client does at the desk: nothing, if it gets none
+abbrev pub done_for : {A E : Type 0} → Result A E → List DeskDeed
+done_for (Ok client) = Made ∷ []
+done_for (Err why) = []
 
 -- a keeper to which some deeds at the hub's desk lead. That these are all that its cards told is not said: cards may be
 -- out

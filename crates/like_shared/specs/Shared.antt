@@ -1,9 +1,8 @@
 -- A shared service, its keeper and its clients.
-use Rattle.std.specs.Prelude.{◌≡◌, ℕ, ◌+◌, ◌^◌, ◌<◌, ◌≤◌, All, Bool, false, IfErr, IsFalse, List, [], ◌∷◌, ◌++◌, length, map, MatchResult, Result, slice_index_or, slice_set, vec_capacity}
+use Rattle.std.specs.Prelude.{◌≡◌, ℕ, ◌≤◌, All, Bool, false, IfErr, IsFalse, List, [], ◌∷◌, ◌++◌, length, map, MatchResult, Result, slice_index_or, slice_set, vec_capacity}
 use Rattle.std.specs.List.{AllZip}
 use Rattle.told_lock.specs.Deeds.{Named, named}
 use Rattle.told_lock.specs.Rights.{IsIdle, IsKeeper, first_of, log_of, name_of, told_of}
-use Rattle.told_lock.specs.declared.keeper.Keeper.{Keeper}
 use Rattle.like_live.specs.Driver.{DriverView}
 use Rattle.like_live.specs.LiveView.{LiveView}
 use Rattle.like_live.specs.Service.{AreItsSeats}
@@ -32,12 +31,17 @@ seats_of s = length s.seats.items
 abbrev pub pages_of : SharedService → ℕ
 pages_of s = pages_at (first_driver s)
 
--- the keeper of this service
+-- how many clients are out
+abbrev pub clients_out : ServiceKeeper → ℕ
+clients_out k = k.driver.out
+
+-- the keeper of this service: as many passes of each seat are out as clients
 pub record IsServiceKeeper (s : SharedService) (k : ServiceKeeper) : Type 0 where
   pub some : 1 ≤ seats_of s
   pub whole : AreItsSeats (first_driver s) (first_seats s)
   pub seats : AllZip IsKeeper s.seats.items k.seats.items
   pub driver : IsKeeper s.driver k.driver
+  pub out : All (λ seat. seat.out ≡ clients_out k) k.seats.items
   pub none : k.back.items ≡ []
   pub room : length s.seats.items ≤ vec_capacity k.back
 
@@ -107,14 +111,9 @@ with_logs told [] = told
 with_logs [] (p ∷ passes) = []
 with_logs (told ∷ rest) (p ∷ passes) = (told ++ named (name_of p.pass) (log_at p)) ∷ with_logs rest passes
 
--- its keeper can make a pass
-abbrev pub HasRoom : Keeper LiveView SeatDeed → Type 0
-HasRoom k = k.out + 1 < 2 ^ 64
-
 -- no client is out
-pub record AreBack (k : ServiceKeeper) : Type 0 where
-  pub driver : k.driver.out ≡ 0
-  pub seats : All (λ s. s.out ≡ 0) k.seats.items
+abbrev pub AreBack : ServiceKeeper → Type 0
+AreBack k = clients_out k ≡ 0
 
 -- no client is out, and none has told anything yet
 pub record IsUnused (k : ServiceKeeper) : Type 0 where

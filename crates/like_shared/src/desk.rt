@@ -7,7 +7,7 @@ use told_lock::{Deeds, Keeper, Lock, Pass};
 
 /// What is done at a desk, as contracts see it. No value of it is made.
 pub enum DeskDeed {
-    /// A client was made, or there was no memory for it.
+    /// A client was made.
     Made,
     /// This client was parked.
     Parked { client: Client },

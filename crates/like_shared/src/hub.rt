@@ -136,15 +136,15 @@ impl Hub {
         requires { IsAtDesk self.now card.old }
         ensures card { IsAtDesk self.now card.new }
         ensures name { name_of card.new ≡ name_of card.old }
-        ensures log { log_of card.new ≡ log_of card.old ++ Made ∷ [] }
+        ensures log { log_of card.new ≡ log_of card.old ++ done_for result }
         ensures client { IfOk result (λ client. IsClient self.now.service client) }
         ensures logs { IfOk result (λ client. seat_logs client ≡ replicate (seats_of self.now.service) []) }
         ensures driver_log { IfOk result (λ client. driver_log client ≡ []) }
         ensures held { IfOk result (λ client. held_by client ≡ replicate (seats_of self.now.service) false) }
     {
-        let made = self.make_client(alloc, card);
+        let client = self.make_client(alloc, card)?;
         self.note_made::<Brand>(card);
-        made
+        Ok(client)
     }
 
     /// Parks a client, with its log, and gives back the seats that it holds. It comes back as it was if another thread is
@@ -252,8 +252,9 @@ impl Hub {
         requires { IsAtDesk self.now card.old }
         ensures name { name_of card.new ≡ name_of card.old }
         ensures log { log_of card.new ≡ log_of card.old }
-        ensures made { (k : _) × (l : _) × IsHolding self.now.desk card.new k l × IsServiceKeeper self.now.service k
-            × IsServiceKeeper self.now.service l × KeepsTold self.now.service k Made l }
+        ensures made { MatchResult result (λ _. (k : _) × (l : _) × IsHolding self.now.desk card.new k l
+            × IsServiceKeeper self.now.service k × IsServiceKeeper self.now.service l
+            × KeepsTold self.now.service k Made l) (λ _. IsAtDesk self.now card.new) }
         ensures client { IfOk result (λ client. IsClient self.now.service client) }
         ensures logs { IfOk result (λ client. seat_logs client ≡ replicate (seats_of self.now.service) []) }
         ensures driver_log { IfOk result (λ client. driver_log client ≡ []) }

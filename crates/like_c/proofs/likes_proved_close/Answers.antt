@@ -10,7 +10,8 @@ returns-then-counts-pages c =
 
 pub returns-in-Err : goal.returns-in-Err
 returns-in-Err c =
-    close_prevented c.in-Some.opened.now c.in-Some.ensures.driver c.in-Err.ensures.refused
+    close_prevented c.in-Some.opened.now c.in-Some.ensures.driver (c.if-counts-pages.false ∙ c.pages.ensures)
+    c.in-Err.ensures.refused
     (record {
       driver_stays = sym c.in-Some.ensures.driver;
       seats_stay = c.check_seats.ensures.same;

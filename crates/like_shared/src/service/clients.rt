@@ -1,10 +1,10 @@
 //! Clients of a shared service are made, and come back.
-ghost use Rattle.std.specs.Prelude.{◌≡◌, ◌++◌, ◌≤◌, [], All, IfOk, IsTrue, false, length, map, replicate, vec_capacity};
+ghost use Rattle.std.specs.Prelude.{◌≡◌, ◌++◌, ◌+◌, ◌-◌, ◌<◌, ◌≤◌, ◌^◌, [], All, IfOk, MatchResult, false, length, map, replicate, vec_capacity};
 ghost use Rattle.std.specs.List.{AllZip};
 ghost use Rattle.told_lock.specs.Deeds.{named};
 ghost use Rattle.told_lock.specs.Rights.{IsKeeper, name_of, told_of};
 ghost use Rattle.like_shared.specs.Passes.{IsReady, log_at};
-ghost use Rattle.like_shared.specs.Shared.{HasRoom, IsClient, IsServiceKeeper, driver_log, driver_told, held_by, seat_logs, seats_of, seats_told, with_logs};
+ghost use Rattle.like_shared.specs.Shared.{IsClient, IsServiceKeeper, clients_out, driver_log, driver_told, held_by, seat_logs, seats_of, seats_told, with_logs};
 
 use super::{SeatKeeper, ServiceKeeper, SharedService};
 use crate::client::Client;
@@ -21,6 +21,8 @@ impl SharedService {
     ) -> Result<Client, AllocError>
         requires { IsServiceKeeper self.now keeper.old }
         ensures keeper { IsServiceKeeper self.now keeper.new }
+        ensures out { MatchResult result (λ _. clients_out keeper.new ≡ clients_out keeper.old + 1)
+            (λ _. keeper.new ≡ keeper.old) }
         ensures told { seats_told keeper.new ≡ seats_told keeper.old }
         ensures driver_told { driver_told keeper.new ≡ driver_told keeper.old }
         ensures client { IfOk result (λ client. IsClient self.now client) }
@@ -28,11 +30,12 @@ impl SharedService {
         ensures driver_log { IfOk result (λ client. driver_log client ≡ []) }
         ensures held { IfOk result (λ client. held_by client ≡ replicate (seats_of self.now) false) }
     {
-        if keeper.driver.out == u64::MAX || !have_room(&keeper.seats) {
+        let out = keeper.driver.out;
+        if out == u64::MAX {
             return Err(AllocError);
         }
         let seats = Vec::with_capacity(alloc, self.seats.len())?;
-        let seats = new_passes(&self.seats, &mut keeper.seats, seats);
+        let seats = new_passes(&self.seats, &mut keeper.seats, out, seats);
         let driver = self.driver.new_pass(&mut keeper.driver);
         Ok(Client { seats, driver })
     }
@@ -42,34 +45,32 @@ impl SharedService {
         requires keeper { IsServiceKeeper self.now keeper.old }
         requires client { IsClient self.now client }
         ensures keeper { IsServiceKeeper self.now keeper.new }
+        ensures out { clients_out keeper.new ≡ clients_out keeper.old - 1 }
         ensures told { seats_told keeper.new ≡ with_logs (seats_told keeper.old) client.seats.items }
         ensures driver_told { driver_told keeper.new
             ≡ driver_told keeper.old ++ named (name_of client.driver) (driver_log client) }
     {
         let Client { seats, driver } = client;
-        take_passes(&self.seats, &mut keeper.seats, seats);
+        let out = keeper.driver.out;
+        take_passes(&self.seats, &mut keeper.seats, out, seats);
         self.driver.take_back(&mut keeper.driver, driver);
     }
 }
 
-// Whether each keeper can make a pass.
-fn have_room(keepers: &[SeatKeeper]) -> bool
-    ensures { IsTrue result → All HasRoom keepers.now }
-{
-    keepers.iter().all(|keeper| keeper.out < u64::MAX)
-}
-
-// A pass of each seat, in order.
+// A pass of each seat, in order. So many are out.
 fn new_passes(
     locks: &[SeatLock],
     keepers: &mut [SeatKeeper],
+    _out: u64,
     mut passes: Vec<SeatPass>,
 ) -> Vec<SeatPass>
     requires keepers { AllZip IsKeeper locks.now keepers.old }
-    requires room { All HasRoom keepers.old }
+    requires out { All (λ k. k.out ≡ _out) keepers.old }
+    requires room { _out + 1 < 2 ^ 64 }
     requires none { passes.items ≡ [] }
     requires places { length locks.now ≤ vec_capacity passes }
     ensures keepers { AllZip IsKeeper locks.now keepers.new }
+    ensures out { All (λ k. k.out ≡ _out + 1) keepers.new }
     ensures told { map told_of keepers.new ≡ map told_of keepers.old }
     ensures passes { AllZip IsReady locks.now result.items }
     ensures logs { map log_at result.items ≡ replicate (length locks.now) [] }
@@ -84,11 +85,13 @@ fn new_passes(
     passes
 }
 
-// Takes a pass of each seat back, in order.
-fn take_passes(locks: &[SeatLock], keepers: &mut [SeatKeeper], passes: Vec<SeatPass>)
+// Takes a pass of each seat back, in order. So many are out.
+fn take_passes(locks: &[SeatLock], keepers: &mut [SeatKeeper], _out: u64, passes: Vec<SeatPass>)
     requires keepers { AllZip IsKeeper locks.now keepers.old }
+    requires out { All (λ k. k.out ≡ _out) keepers.old }
     requires passes { AllZip IsReady locks.now passes.items }
     ensures keepers { AllZip IsKeeper locks.now keepers.new }
+    ensures out { All (λ k. k.out ≡ _out - 1) keepers.new }
     ensures told { map told_of keepers.new ≡ with_logs (map told_of keepers.old) passes.items }
 {
     let mut seat = 0;
@@ -103,6 +106,7 @@ fn take_pass(lock: &SeatLock, keeper: &mut SeatKeeper, pass: SeatPass)
     requires keeper { IsKeeper lock.now keeper.old }
     requires ready { IsReady lock.now pass }
     ensures keeper { IsKeeper lock.now keeper.new }
+    ensures out { keeper.new.out ≡ keeper.old.out - 1 }
     ensures told { told_of keeper.new ≡ told_of keeper.old ++ named (name_of pass.pass) (log_at pass) }
 {
     lock.take_back(keeper, free(lock, pass));

@@ -20,7 +20,7 @@ impl SharedService {
         ensures not { IfErr result (IsNotClosed self keeper) }
         ensures unchanged { IfErr result (λ _. counts.new ≡ counts.old) }
     {
-        if !are_back(&keeper) {
+        if keeper.driver.out > 0 {
             return Err(NotClosed::ClientOut {
                 service: self,
                 keeper,
@@ -49,13 +49,6 @@ impl SharedService {
             Err(NotAllGone { service }) => Err(NotClosed::SeatNotGone { service }),
         }
     }
-}
-
-// Whether no client is out.
-fn are_back(keeper: &ServiceKeeper) -> bool
-    ensures { MatchBool result (AreBack keeper.now) (¬ AreBack keeper.now) }
-{
-    keeper.driver.out == 0 && keeper.seats.iter().all(|seat| seat.out == 0)
 }
 
 // The seats, once all their passes are back.

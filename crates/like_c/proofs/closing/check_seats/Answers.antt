@@ -26,8 +26,9 @@ returns-in_err-check_seat-clause-refused c =
     let l = c.loop-i in
     let x = c.index-seats-i.result in
     let first = c.args.seats.now in
-    IfErr-weaker c.from_residual.result (PreventsEnd (get_or l.seats l.i x)) (PreventEnd first)
-    (λ why. prevents-at first l.seats l.i x x why (sym l.invariant.same) (omega (arith, c.loop-i-test.true)))
+    IfErr-weaker c.from_residual.result (PreventsEnd (get_or l.seats l.i x)) (PreventEnd c.args.opened.now first)
+    (λ why. prevents-at c.args.opened.now first l.seats l.i x x why (sym l.invariant.same)
+    (omega (arith, c.loop-i-test.true)) l.invariant.gone)
     (search rules)
 
 pub returns-in_err-check_seat-clause-same : goal.returns-in_err-check_seat-clause-same

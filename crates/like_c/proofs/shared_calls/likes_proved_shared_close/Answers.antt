@@ -14,7 +14,8 @@ returns-then-counts-pages c =
 
 pub returns-in-Err : goal.returns-in-Err
 returns-in-Err c =
-    close_stays c.in-Some.boxed.now _ c.in-Some.ensures.service c.in-Err.ensures.refused refl c.in-Err.ensures.keeps refl
+    close_stays c.in-Some.boxed.now _ c.in-Some.ensures.service (c.if-counts-pages.false ∙ c.pages.ensures)
+    c.in-Err.ensures.refused refl c.in-Err.ensures.keeps refl
 
 pub end-requires : goal.end-requires
 end-requires c =
@@ -34,5 +35,6 @@ returns-in-Ok c =
 
 pub returns-in-Err-end : goal.returns-in-Err-end
 returns-in-Err-end c =
-    close_lost c.in-Some.boxed.now c.in-Some.ensures.service c.in-Err-end.ensures.refused c.in-Err-end.ensures.unchanged
+    close_lost c.in-Some.boxed.now c.in-Some.ensures.service (c.if-counts-pages.false ∙ c.pages.ensures)
+    c.in-Err-end.ensures.refused c.in-Err-end.ensures.unchanged
     c.in-Some-take.ensures.left

@@ -1,21 +1,51 @@
-use Rattle.std.proofs.Common.{ap, ◌∙◌}
-use Rattle.like_shared.specs.Shared.{driver_told, seats_told}
+use Rattle.std.proofs.Common.{◌≡◌, ◌+◌, Result, Ok, Err, MatchResult, ap, ◌∙◌, subst}
+use Rattle.std.specs.declared.alloc.AllocError.{AllocError}
+use Rattle.told_lock.specs.Lending.{pass_with}
+use Rattle.told_lock.specs.Rights.{IsHolding}
+use Rattle.told_lock.specs.declared.pass.Pass.{Pass}
+use Rattle.like_shared.specs.declared.client.Client.{Client}
+use Rattle.like_shared.specs.declared.desk.DeskDeed.{DeskDeed}
+use Rattle.like_shared.specs.declared.desk.DeskDeed.TheVariants.{Made}
+use Rattle.like_shared.specs.declared.hub.Hub.{Hub}
+use Rattle.like_shared.specs.declared.service.ServiceKeeper.{ServiceKeeper}
+use Rattle.like_shared.specs.Desk.{KeepsTold}
+use Rattle.like_shared.specs.Hubs.{IsAtDesk}
+use Rattle.like_shared.specs.Shared.{IsServiceKeeper, clients_out, driver_told, seats_told}
 use Rattle.like_shared.proofs.Desks.{as-held, as-written}
 use Rattle.like_shared.proofs.hub.Hub.make_client.Goals as goal
 
+-- the card has the keeper, which made a client, or is as it was
+abbrev HasMade : Hub → Pass ServiceKeeper DeskDeed → Result Client AllocError → Type 0
+HasMade h card result = MatchResult result
+    (λ _. (k : ServiceKeeper) × (l : ServiceKeeper) × IsHolding h.desk card k l × IsServiceKeeper h.service k
+    × IsServiceKeeper h.service l × KeepsTold h.service k Made l) (λ _. IsAtDesk h card)
+
+has-made : (h : Hub) (card : Pass ServiceKeeper DeskDeed) (k old l : ServiceKeeper) (result : Result Client AllocError)
+    → IsHolding h.desk card k k → IsServiceKeeper h.service k → old ≡ k → IsServiceKeeper h.service l
+    → MatchResult result (λ _. clients_out l ≡ clients_out old + 1) (λ _. l ≡ old)
+    → seats_told l ≡ seats_told old → driver_told l ≡ driver_told old → HasMade h (pass_with card l) result
+has-made h card k old l (Ok client) holding is same after out told driver = (
+  k,
+  l,
+  as-written h.desk card k l holding,
+  is,
+  after,
+  (
+    out ∙ ap (λ x. clients_out x + 1) same,
+    told ∙ ap seats_told same,
+    driver ∙ ap driver_told same,
+  ),
+)
+has-made h card k old l (Err why) holding is same after out told driver =
+    (k, subst (IsHolding h.desk (pass_with card l) k) (out ∙ same) (as-written h.desk card k l holding), is)
+
 pub returns-clause-made : goal.returns-clause-made
 returns-clause-made c =
-    let desk = c.args.self.now.desk in
+    let h = c.args.self.now in
     let card = c.args.card.now in
     let it = c.requires in
     let at = c.value_mut.ensures.value in
-    let same = as-held desk card at.0 c.value_mut.result.now it.0 it.0 at.1 it.1 in
-    let l = c.new_client.new.keeper in
-    let told = c.new_client.ensures in (
-      it.0,
-      l,
-      as-written desk card it.0 l it.1,
-      it.2,
-      told.keeper,
-      (told.told ∙ ap seats_told same, told.driver_told ∙ ap driver_told same),
-    )
+    let same = as-held h.desk card at.0 c.value_mut.result.now it.0 it.0 at.1 it.1 in
+    let told = c.new_client.ensures in
+    has-made h card it.0 c.value_mut.result.now c.new_client.new.keeper c.new_client.result it.1 it.2 same told.keeper
+    told.out told.told told.driver_told

@@ -1,8 +1,8 @@
-use Rattle.std.proofs.Common.{ap, ◌∙◌, ◌++◌}
+use Rattle.std.proofs.Common.{◌-◌, ap, ◌∙◌, ◌++◌}
 use Rattle.told_lock.specs.Deeds.{named}
 use Rattle.told_lock.specs.Rights.{name_of}
 use Rattle.like_shared.specs.declared.service.ServiceKeeper.{ServiceKeeper}
-use Rattle.like_shared.specs.Shared.{driver_log, driver_told, seats_told, with_logs}
+use Rattle.like_shared.specs.Shared.{clients_out, driver_log, driver_told, seats_told, with_logs}
 use Rattle.like_shared.proofs.Desks.{as-held, as-written}
 use Rattle.like_shared.proofs.hub.Hub.take_client.Goals as goal
 
@@ -23,6 +23,7 @@ returns-clause-parked c =
       told.keeper,
       (
         c.requires.client,
+        told.out ∙ ap (λ (k : ServiceKeeper). clients_out k - 1) same,
         told.told ∙ ap (λ (k : ServiceKeeper). with_logs (seats_told k) client.seats.items) same,
         told.driver_told
             ∙ ap (λ (k : ServiceKeeper). driver_told k ++ named (name_of client.driver) (driver_log client)) same,

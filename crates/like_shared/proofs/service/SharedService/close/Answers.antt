@@ -1,4 +1,4 @@
-use Rattle.std.proofs.Common.{length, sym, ap, ◌∙◌, subst}
+use Rattle.std.proofs.Common.{arith, length, sym, ap, ◌∙◌, subst}
 use Rattle.told_lock.specs.Deeds.{deeds_in}
 use Rattle.like_live.specs.Service.{AreGone}
 use Rattle.like_shared.specs.Closed.{LeadsTo}
@@ -25,7 +25,7 @@ returns-in-Ok-clause-closed c =
     let k = c.args.keeper in
     let driver = c.close-driver.result in
     let back = c.close_all.new.back.items in
-    closed-shared c.shared_services_are_strict.ensures s k driver back c.close.new.counts c.if-not-are_back.ensures
+    closed-shared c.shared_services_are_strict.ensures s k driver back c.close.new.counts (omega (arith, c.if-keeper-gt0.false))
     (leads-to c.calls_keep_seats.ensures s k driver back c.requires.keeper.whole c.close-driver.ensures
     c.close_all.ensures)
     c.in-Ok.ensures.closed c.in-Ok.ensures.gone
@@ -39,7 +39,7 @@ returns-clause-not c =
     let service = c.in-Err.field-0.service in
     let is = c.in-Err.ensures.back in
     let seats-are = ap (λ x. x.seats.items) is in (
-      c.if-not-are_back.ensures,
+      omega (arith, c.if-keeper-gt0.false),
       subst (λ d. LeadsTo s k d service.seats.items) (sym (ap (λ x. x.driver) is))
           (subst (LeadsTo s k driver) (sym seats-are)
           (leads-to c.calls_keep_seats.ensures s k driver back c.requires.keeper.whole c.close-driver.ensures

@@ -1,13 +1,11 @@
 use Rattle.std.proofs.Common.{◌+◌, false, [], ◌∷◌, ◌++◌, length, map, take, sym, ap, ◌∙◌, subst, arith}
 use Rattle.std.specs.List.{AllZip}
 use Rattle.std.proofs.lemmas.List.{get_or-set_other, length_push, map-append, replicate_more}
-use Rattle.std.proofs.lemmas.List.Elements.{All-get_or}
 use Rattle.std.proofs.lemmas.Slice.Zip.{AllZip-long}
 use Rattle.told_lock.specs.Rights.{IsKeeper, told_of}
 use Rattle.like_shared.specs.declared.seat_call.SeatPass.{SeatPass}
 use Rattle.like_shared.specs.Passes.{IsReady, log_at}
-use Rattle.like_shared.specs.Shared.{HasRoom}
-use Rattle.like_shared.proofs.Places.{map-alike, zip-more, zip-read, zip-set}
+use Rattle.like_shared.proofs.Places.{IsOut, all-set, all-whole, map-alike, out-at, zip-more, zip-read, zip-set}
 use Rattle.like_shared.proofs.service.clients.new_passes.Goals as goal
 
 pub bounds-keepers-seat : goal.bounds-keepers-seat
@@ -26,10 +24,12 @@ new_pass-requires-clause-keeper c =
 pub new_pass-requires-clause-room : goal.new_pass-requires-clause-room
 new_pass-requires-clause-room c =
     let l = c.loop-seat in
-    let keeper = c.index-keepers-seat.result in
+    let keeper = c.index-keepers-seat in
     let all = AllZip-long IsKeeper c.args.locks.now c.args.keepers.now c.requires.keepers in
-    subst HasRoom (sym (l.invariant.rest l.seat keeper (omega arith)))
-    (All-get_or HasRoom c.args.keepers.now l.seat keeper (omega (arith, c.loop-seat-test.true, all)) c.requires.room)
+    let seen = out-at c.args.keepers.now l.keepers c.args._out l.seat keeper.result
+    (omega (arith, c.loop-seat-test.true, all)) c.requires.out
+    (l.invariant.rest l.seat keeper.result (omega arith)) in
+    omega (arith, seen, c.requires.room)
 
 pub loop-seat-preserved : goal.loop-seat-preserved
 loop-seat-preserved c =
@@ -41,9 +41,14 @@ loop-seat-preserved c =
     let did = c.new_pass.ensures in
     let less = c.loop-seat-test.true in
     let all = AllZip-long IsKeeper c.args.locks.now l.keepers l.invariant.keepers in
+    let first = AllZip-long IsKeeper c.args.locks.now c.args.keepers.now c.requires.keepers in
+    let seen = out-at c.args.keepers.now l.keepers c.args._out l.seat keeper.result (omega (arith, less, first))
+    c.requires.out (l.invariant.rest l.seat keeper.result (omega arith)) in
     record {
       keepers = zip-set IsKeeper c.args.locks.now l.keepers l.seat lock.result after l.invariant.keepers less lock.is
           did.keeper;
+      out = all-set (IsOut (c.args._out + 1)) l.keepers l.seat after (omega (arith, less, all)) l.invariant.out
+          (did.out ∙ ap (λ n. n + 1) seen);
       told = map-alike told_of l.keepers l.seat keeper.result after (omega (arith, less, all)) keeper.is
           (did.told ∙ ap told_of (sym keeper.is)) ∙ l.invariant.told;
       rest = λ i d past.
@@ -58,3 +63,10 @@ loop-seat-preserved c =
       len = ap length c.push_reserved.ensures.items ∙ length_push l.passes.items pass ∙ ap (λ n. n + 1) l.invariant.len;
       room = c.push_reserved.ensures.capacity ∙ l.invariant.room;
     }
+
+pub returns-clause-out : goal.returns-clause-out
+returns-clause-out c =
+    let l = c.loop-seat in
+    all-whole (IsOut (c.args._out + 1)) l.keepers l.seat
+    (omega (arith, AllZip-long IsKeeper c.args.locks.now l.keepers l.invariant.keepers, c.loop-seat-test.false))
+    l.invariant.out

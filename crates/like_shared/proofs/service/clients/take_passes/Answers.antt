@@ -1,13 +1,13 @@
-use Rattle.std.proofs.Common.{◌+◌, ◌<◌, ◌++◌, get_or, length, map, set, sym, ap, ◌∙◌, subst, arith}
+use Rattle.std.proofs.Common.{◌+◌, ◌-◌, ◌<◌, ◌++◌, get_or, length, map, set, sym, ap, ◌∙◌, subst, arith}
 use Rattle.std.proofs.lemmas.Iterator.Adapters.{YieldsList-from_vec}
-use Rattle.std.proofs.lemmas.Iterator.Consumers.{YieldsList-turn}
-use Rattle.std.proofs.lemmas.List.{length_push}
+use Rattle.std.proofs.lemmas.Iterator.Consumers.{YieldsList-end, YieldsList-turn}
+use Rattle.std.proofs.lemmas.List.{get_or-set_other, length_push, map-id}
 use Rattle.std.proofs.lemmas.Slice.Zip.{AllZip-long}
 use Rattle.told_lock.specs.Deeds.{named}
 use Rattle.told_lock.specs.Rights.{IsKeeper, name_of, told_of}
 use Rattle.like_shared.specs.Passes.{IsReady, log_at}
 use Rattle.like_shared.proofs.Backs.{told-more}
-use Rattle.like_shared.proofs.Places.{zip-read, zip-set}
+use Rattle.like_shared.proofs.Places.{IsOut, all-set, all-whole, out-at, zip-read, zip-set}
 use Rattle.like_shared.proofs.service.clients.take_passes.Goals as goal
 
 pub bounds-locks-seat : goal.bounds-locks-seat
@@ -101,8 +101,15 @@ loop-pass-preserved c =
     let did = c.take_pass.ensures in
     let pass = c.in-Some.pass in
     let next = l.invariant.next in
+    let first = AllZip-long IsKeeper c.args.locks.now c.args.keepers.now c.requires.keepers in
+    let seen = out-at c.args.keepers.now l.keepers c.args._out l.seat keeper.result
+    (omega (arith, turn.0, next, passes, first)) c.requires.out (l.invariant.rest l.seat keeper.result (omega arith)) in
     record {
       next = ap (λ n. n + 1) next ∙ sym (length_push l.yielded pass);
+      out = all-set (IsOut (c.args._out - 1)) l.keepers l.seat after (omega (arith, turn.0, next, passes, keepers))
+          l.invariant.out (did.out ∙ ap (λ n. n - 1) seen);
+      rest = λ i d past.
+          get_or-set_other l.keepers l.seat i after d (λ same. omega (arith, past, same)) ∙ l.invariant.rest i d (omega (arith, past));
       keepers =
           zip-set IsKeeper c.args.locks.now l.keepers l.seat lock.result after l.invariant.keepers
           (omega (arith, turn.0, next, passes)) lock.is did.keeper;
@@ -112,3 +119,20 @@ loop-pass-preserved c =
           (omega (arith, turn.0, passes, keepers)) (keeper.is ∙ ap (λ i. get_or l.keepers i keeper.result) next)
           (did.told ∙ ap (λ k. told_of k ++ named (name_of pass.pass) (log_at pass)) (sym keeper.is));
     }
+
+pub returns-clause-out : goal.returns-clause-out
+returns-clause-out c =
+    let l = c.loop-pass in
+    let from = c.into_iter-pass-iterator.ensures.into_iter_gives in
+    let all = YieldsList-from_vec {s = c.into_iter-pass-iterator.result} c.args.passes.items from.0
+    (from.1 ∙ c.args.passes.ok.0) in
+    let end = YieldsList-end all l.yielded _ l.yielded_by _ c.next.new.self c.in-None.is c.next.ensures.steps in
+    all-whole (IsOut (c.args._out - 1)) l.keepers l.seat
+    (omega (
+      arith,
+      AllZip-long IsKeeper c.args.locks.now l.keepers l.invariant.keepers,
+      AllZip-long IsReady c.args.locks.now c.args.passes.items c.requires.passes,
+      l.invariant.next,
+      ap length (sym (map-id l.yielded) ∙ end.0),
+    ))
+    l.invariant.out
