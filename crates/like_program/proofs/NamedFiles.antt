@@ -13,6 +13,7 @@ use Rattle.like_files.specs.Run.{HasRunSome, IsRunFilesFault}
 use Rattle.like_files.specs.Tries.{Try}
 use Rattle.like_files.specs.declared.fault.DriverFault.{DriverFault}
 use Rattle.like_files.specs.declared.opened.Opened.{Opened}
+use Rattle.like_program.specs.Program.{BeginsSome}
 use Rattle.like_program.specs.Named.{BeginsNamed, HasReplayedNamed, HasRunNamed, IsReplayNamedFault, IsRunNamedFault}
 
 -- a script tells something just if there is one
@@ -56,6 +57,18 @@ module _ {R : Type 0} (left : R → Option (List ℕ)) (before after : Option (L
     all_requests = length-map done.opened.requests.items left ∙ done.named.all_requests;
     run = done.run;
   }
+
+  pub some-begun : {W A : Type 0} (held : W → Option (List ℕ)) (old new : W) (r : Result A DriverFault)
+      → OnErr r (LeavesFront (BeginsNamed left before after options) held old new)
+      → OnErr r (LeavesFront (BeginsSome options) held old new)
+  some-begun held old new (Ok done) begun = tt
+  some-begun held old new (Err fault) (inl same) = inl same
+  some-begun held old new (Err fault) (inr front) =
+      inr (record {
+        inputs = inputs_in left front.opened;
+        all_requests = length-map front.opened.requests.items left ∙ front.named.all_requests;
+        begun = front.begun;
+      })
 
   pub some-replay : (old new : Option (List ℕ)) (notice : Option Notice)
       → HasReplayedNamed left before after options old new notice → HasReplayedSome options old new notice

@@ -1,19 +1,19 @@
 -- What the program has done for its words, by what its parts answered.
-use Rattle.std.proofs.Common.{◌≡◌, ◌==◌, ℕ, List, [], ◌∷◌, inl, inr, Option, Result, Ok, Err, IfErr, IfOk, ap, false, true, length, map, refl, subst, sym, true≢false}
-use Rattle.std.specs.Prelude.{◌⊎◌, MatchResult}
+use Rattle.std.proofs.Common.{◌≡◌, ◌==◌, ℕ, List, [], ◌∷◌, inl, inr, Option, Result, Ok, Err, IfErr, IfOk, ap, false, length, map, refl, true≢false}
+use Rattle.std.specs.Prelude.{◌⊎◌, MatchResult, OnErr}
 use Rattle.like_command.specs.Asked.{Asks, Words}
 use Rattle.like_files.specs.Faults.{IsBeforeOutput}
-use Rattle.like_files.specs.Outcome.{TellsWrite}
-use Rattle.like_files.specs.StandardInput.{names_of, names_twice}
+use Rattle.like_files.specs.Inputs.{BeginsReportOf}
+use Rattle.like_files.specs.Outcome.{LeavesFront, TellsWrite}
 use Rattle.like_program.specs.Fault.{of_files}
-use Rattle.like_program.specs.Program.{HasDone, HasServed, IsServeFault, IsWordsFault, TellsProgram}
+use Rattle.like_program.specs.Program.{BeginsAtMost, BeginsSome, HasDone, HasServed, IsExample, IsExampleFault, IsServeFault, IsWordsFault, TellsProgram, example_inputs}
 use Rattle.like_command.specs.declared.asked.Asked.{Asked}
 use Rattle.like_command.specs.declared.asked.Asked.TheVariants.{Run, Replay}
 use Rattle.like_command.specs.declared.options.Options.{Options}
 use Rattle.like_replies.specs.declared.notice.Notice.{Notice}
 use Rattle.like_files.specs.declared.fault.DriverFault.{DriverFault}
 use Rattle.like_program.specs.declared.fault.ProgramFault.{ProgramFault}
-use Rattle.like_program.specs.declared.fault.ProgramFault.TheVariants.{Files, Inputs}
+use Rattle.like_program.specs.declared.fault.ProgramFault.TheVariants.{Files}
 
 -- what is asked for by some words was done
 pub served : (words : Words) (old new : Option (List ℕ)) (asked : Asked) (notice : Option Notice)
@@ -53,29 +53,31 @@ pub of_files-told : {A W : Type 0} (Failed : W → Type 0) (options : Options) (
 of_files-told Failed options (Ok x) old new told = told
 of_files-told Failed options (Err fault) old new told = told
 
--- why a run or a replay with these options was not done
-abbrev pub IsFilesFault : Options → Option (List ℕ) → Option (List ℕ) → ProgramFault → Type 0
-IsFilesFault options old new fault =
-    ((why : DriverFault) × (fault ≡ Files options why) × (IsBeforeOutput why → new ≡ old))
-    ⊎ ((fault ≡ Inputs) × (names_twice (names_of options) ≡ true) × (new ≡ old))
+-- what a fault of a run or a replay left of the output
+pub begins-at_most : {A W : Type 0} (Begun : Option (List ℕ) → Option (List ℕ) → Type 0) (held : W → Option (List ℕ))
+    (done : Result A DriverFault) (old new : W)
+    → OnErr done (LeavesFront Begun held old new)
+    → IfErr done (λ fault. IsBeforeOutput fault → new ≡ old)
+    → IfErr done (BeginsAtMost Begun (held old) (held new))
+begins-at_most Begun held (Ok x) old new front same = tt
+begins-at_most Begun held (Err fault) old new (inl kept) same = (inl (ap held kept), λ early. ap held (same early))
+begins-at_most Begun held (Err fault) old new (inr begun) same = (inr begun, λ early. ap held (same early))
 
-pub files-fault : {A W : Type 0} (contents : W → Option (List ℕ)) (options : Options) (done : Result A DriverFault)
-    (before after : W)
-    → IfErr done (λ fault. IsBeforeOutput fault → after ≡ before)
-    → IfErr (of_files options done) (IsFilesFault options (contents before) (contents after))
-files-fault contents options (Ok x) before after same = tt
-files-fault contents options (Err fault) before after same = inl (fault, refl, λ early. ap contents (same early))
-
--- that is why what the words ask for was not done
+-- a fault of the files of some words is why what they ask for was not done
 pub files-not_served : {A : Type 0} (words : Words) (old new : Option (List ℕ)) (options : Options)
-    (done : Result A ProgramFault)
+    (done : Result A DriverFault)
     → ¬ (words ≡ [])
     → Asks words (Run options) ⊎ Asks words (Replay options)
-    → IfErr done (IsFilesFault options old new) → IfErr done (IsServeFault words old new)
-files-not_served words old new options (Ok x) some asks why = tt
-files-not_served words old new options (Err fault) some asks (inl why) =
-    subst (IsServeFault words old new) (sym why.1)
-    (not_served words old new (Files options why.0) some (asks, why.2))
-files-not_served words old new options (Err fault) some asks (inr twice) =
-    subst (IsServeFault words old new) (sym twice.0)
-    (not_served words old new Inputs some (options, asks, twice.1, twice.2))
+    → IfErr done (BeginsAtMost (BeginsSome options) old new)
+    → IfErr (of_files options done) (IsServeFault words old new)
+files-not_served words old new options (Ok x) some asks left = tt
+files-not_served words old new options (Err fault) some asks left =
+    not_served words old new (Files options fault) some (asks, left)
+
+-- a fault of the example's files is why the example was not replayed
+pub files-not_replayed : {A : Type 0} (old new : Option (List ℕ)) (options : Options) (done : Result A DriverFault)
+    → IsExample options
+    → IfErr done (BeginsAtMost (BeginsReportOf options example_inputs) old new)
+    → IfErr (of_files options done) (IsExampleFault old new)
+files-not_replayed old new options (Ok x) numbers left = tt
+files-not_replayed old new options (Err fault) numbers left = (numbers, left)

@@ -1,8 +1,9 @@
 -- What the program has done for its words, and the status with which it ends.
-use Rattle.std.specs.Prelude.{◌≡◌, ◌⊎◌, ℕ, false, true, List, [], ◌∷◌, Option, None, Some, codes, string_bytes}
+use Rattle.std.specs.Prelude.{◌≡◌, ◌⊎◌, ℕ, false, true, List, [], ◌∷◌, length, Option, None, Some, codes, string_bytes}
 use Rattle.std.specs.Io.KnownBytes.{Appends}
 use Rattle.like_command.specs.Asked.{Asks, AsksForHelp, IsParseFault, Words}
 use Rattle.like_files.specs.Faults.{IsBeforeOutput}
+use Rattle.like_files.specs.Inputs.{BeginsReportOf, Inputs}
 use Rattle.like_files.specs.Outcome.{TellsWrite}
 use Rattle.like_program.specs.Fault.{program_status}
 use Rattle.like_files.specs.Replay.{HasReplayed, HasReplayedSome}
@@ -11,6 +12,7 @@ use Rattle.like_files.specs.StandardInput.{names_of, names_twice}
 use Rattle.like_command.specs.declared.asked.Asked.{Asked}
 use Rattle.like_command.specs.declared.asked.Asked.TheVariants.{Run, Replay, Help}
 use Rattle.like_command.specs.declared.options.Options.{Options}
+use Rattle.like_files.specs.declared.fault.DriverFault.{DriverFault}
 use Rattle.like_replies.specs.declared.notice.Notice.{Notice}
 use Rattle.like_program.specs.declared.fault.ProgramFault.{ProgramFault}
 use Rattle.like_program.specs.declared.fault.ProgramFault.TheVariants as program
@@ -34,16 +36,19 @@ pub record IsExample (o : Options) : Type 0 where
   pub summary : o.summary ≡ false
   pub progress : o.progress ≡ false
 
+-- the example's files, without a script
+abbrev pub example_inputs : Inputs
+example_inputs = record {
+  pages = Some example_pages;
+  requests = Some example_requests ∷ [];
+  script = None;
+}
+
 -- the example was replayed, with this notice on its report
 pub record HasReplayedExample (old new : Option (List ℕ)) (notice : Option Notice) : Type 0 where
   pub options : Options
   pub numbers : IsExample options
-  pub replayed :
-      HasReplayed options (record {
-        pages = Some example_pages;
-        requests = Some example_requests ∷ [];
-        script = None;
-      }) old new notice
+  pub replayed : HasReplayed options example_inputs old new notice
 
 -- one file of the options at most is standard input
 abbrev pub NamesInputOnce : Options → Type 0
@@ -61,9 +66,21 @@ HasServed [] old new notice = HasReplayedExample old new notice
 HasServed (word ∷ words) old new notice =
     (asked : Asked) × Asks (word ∷ words) asked × HasDone asked old new notice
 
+-- a front of a report of some files was written, as many request files as the options name
+pub record BeginsSome (options : Options) (old new : Option (List ℕ)) : Type 0 where
+  pub inputs : Inputs
+  pub all_requests : length inputs.requests ≡ length options.requests.items
+  pub begun : BeginsReportOf options inputs old new
+
+-- after this fault the output is as before, or this was begun; with a fault before the output it is as before
+abbrev pub BeginsAtMost :
+    (Option (List ℕ) → Option (List ℕ) → Type 0) → Option (List ℕ) → Option (List ℕ) → DriverFault → Type 0
+BeginsAtMost Begun old new fault = ((new ≡ old) ⊎ Begun old new) × (IsBeforeOutput fault → new ≡ old)
+
 -- why the example was not replayed
 abbrev pub IsExampleFault : Option (List ℕ) → Option (List ℕ) → ProgramFault → Type 0
-IsExampleFault old new (program.Files options fault) = IsBeforeOutput fault → new ≡ old
+IsExampleFault old new (program.Files options fault) =
+    IsExample options × BeginsAtMost (BeginsReportOf options example_inputs) old new fault
 IsExampleFault old new program.Memory = new ≡ old
 IsExampleFault old new fault = ⊥
 
@@ -71,7 +88,7 @@ IsExampleFault old new fault = ⊥
 abbrev pub IsWordsFault : Words → Option (List ℕ) → Option (List ℕ) → ProgramFault → Type 0
 IsWordsFault words old new (program.Words fault) = IsParseFault words fault × (new ≡ old)
 IsWordsFault words old new (program.Files options fault) =
-    (Asks words (Run options) ⊎ Asks words (Replay options)) × (IsBeforeOutput fault → new ≡ old)
+    (Asks words (Run options) ⊎ Asks words (Replay options)) × BeginsAtMost (BeginsSome options) old new fault
 IsWordsFault words old new program.Output = AsksForHelp words
 IsWordsFault words old new program.Inputs =
     (options : Options) × (Asks words (Run options) ⊎ Asks words (Replay options))
@@ -83,18 +100,27 @@ abbrev pub IsServeFault : Words → Option (List ℕ) → Option (List ℕ) → 
 IsServeFault [] old new fault = IsExampleFault old new fault
 IsServeFault (word ∷ words) old new fault = IsWordsFault (word ∷ words) old new fault
 
--- the program ends with 0 where it has done what its words ask for, or else with the status of a fault
-abbrev pub Ends : Words → Option (List ℕ) → Option (List ℕ) → ℕ → Type 0
-Ends words old new status = ((status ≡ 0) × (notice : Option Notice) × HasServed words old new notice)
-    ⊎ ((fault : ProgramFault) × (status ≡ program_status fault) × IsServeFault words old new fault)
-
 -- the fault tells whether a write or a flush of the output failed
 abbrev pub TellsProgram : {W : Type 0} → (W → Type 0) → W → W → ProgramFault → Type 0
 TellsProgram Failed old new (program.Files options fault) = TellsWrite Failed old new fault
 TellsProgram Failed old new program.Output = Failed new
 TellsProgram Failed old new fault = Failed new → Failed old
 
--- with status 0 the output is flushed, and no call of it failed; or the status is that of a fault, which tells whether one did
-abbrev pub EndsOutput : {W : Type 0} → (W → Type 0) → (W → Type 0) → W → W → ℕ → Type 0
-EndsOutput Flushed Failed old new status = ((status ≡ 0) × Flushed new × (Failed new → Failed old))
-    ⊎ ((fault : ProgramFault) × (status ≡ program_status fault) × TellsProgram Failed old new fault)
+module _ {W : Type 0} (held : W → Option (List ℕ)) (Flushed Failed : W → Type 0) (words : Words) (old new : W) where
+  -- what the words ask for was done, the output is flushed, and no call of it failed
+  pub record EndsWell : Type 0 where
+    pub notice : Option Notice
+    pub served : HasServed words (held old) (held new) notice
+    pub flushed : Flushed new
+    pub told : Failed new → Failed old
+
+  -- with this fault it was not done, and the fault tells whether a call of the output failed
+  pub record EndsInFault (fault : ProgramFault) : Type 0 where
+    pub why : IsServeFault words (held old) (held new) fault
+    pub told : TellsProgram Failed old new fault
+
+  -- the program ends with 0 where all went well, or else with the status of a fault
+  abbrev pub Ends : ℕ → Type 0
+  Ends status =
+      ((status ≡ 0) × EndsWell)
+      ⊎ ((fault : ProgramFault) × (status ≡ program_status fault) × EndsInFault fault)

@@ -3,7 +3,7 @@ ghost use Rattle.std.specs.Io.KnownBytes.{Appends};
 ghost use Rattle.like_files.specs.StandardInput.{names_of, names_twice};
 ghost use Rattle.like_replies.specs.Output.{TellsCall};
 ghost use Rattle.like_program.specs.Fault.{program_status};
-ghost use Rattle.like_program.specs.Program.{Ends, EndsOutput, HasServed, IsServeFault, NamesInputOnce, TellsProgram};
+ghost use Rattle.like_program.specs.Program.{Ends, HasServed, IsServeFault, NamesInputOnce, TellsProgram};
 ghost use Rattle.like_program.specs.declared.fault.ProgramFault.TheVariants as program;
 
 use crate::example::replay_example;
@@ -34,8 +34,7 @@ pub fn serve_words<R: Files + Input + Threads + Wait + Clock + Sync, W: Output, 
 where
     R::File: Send,
     R::Reader: Send,
-    ensures ends { Ends (map string_bytes words.now) (W.held out.old) (W.held out.new) result }
-    ensures output { EndsOutput W.is_flushed W.has_failed out.old out.new result }
+    ensures { Ends W.held W.is_flushed W.has_failed (map string_bytes words.now) out.old out.new result }
 {
     let mut watch = Stopwatch::new(rt, errors);
     match serve(rt, alloc, words, out, &mut watch) {

@@ -3,8 +3,9 @@ use Rattle.std.proofs.lemmas.Result.{IfOk-weaker, err_from_is_err_and}
 use Rattle.like_command.specs.Asked.{Words}
 use Rattle.like_command.specs.declared.asked.Asked.TheVariants.{Run, Replay, Help}
 use Rattle.like_program.specs.declared.fault.ProgramFault.TheVariants as program
-use Rattle.like_program.proofs.NamedFiles.{some-replay, some-run}
-use Rattle.like_program.proofs.Serving.{files-fault, files-not_served, not_served, of_files-ok, served, some-words}
+use Rattle.like_program.specs.Program.{BeginsSome}
+use Rattle.like_program.proofs.NamedFiles.{some-begun, some-replay, some-run}
+use Rattle.like_program.proofs.Serving.{begins-at_most, files-not_served, not_served, of_files-ok, served, some-words}
 use Rattle.like_program.proofs.program.serve.Goals as goal
 
 pub returns-in_err-options-clause-fault : goal.returns-in_err-options-clause-fault
@@ -40,9 +41,14 @@ returns-in_ok-begin-in-Run-clause-fault g c =
     let words : Words = map string_bytes c.args.words.now in
     let some = some-words string_bytes c.args.words.now (sym c.is_empty.ensures ∙ c.if-is_empty.false) in
     let asks = rw c.in-Run.is at c.in_ok-options.ensures.asked in
+    let options = c.in-Run.options in
+    let done = c.run_named-done.result in
+    let old = c.args.out.now in
+    let new = c.run_named-done.new.out in
     rw c.with_options.ensures
-    (files-not_served words _ _ c.in-Run.options _ some (inl asks)
-    (files-fault g.W.Output.held c.in-Run.options c.run_named-done.result c.args.out.now c.run_named-done.new.out
+    (files-not_served words _ _ options done some (inl asks)
+    (begins-at_most (BeginsSome options) g.W.Output.held done old new
+    (some-begun _ _ _ options g.W.Output.held old new done c.run_named-done.ensures.begun)
     c.run_named-done.ensures.run.untouched))
 
 pub returns-in_err-begin-in-Replay-clause-fault : goal.returns-in_err-begin-in-Replay-clause-fault
@@ -70,9 +76,14 @@ returns-in_ok-begin-in-Replay-clause-fault g c =
     let words : Words = map string_bytes c.args.words.now in
     let some = some-words string_bytes c.args.words.now (sym c.is_empty.ensures ∙ c.if-is_empty.false) in
     let asks = rw c.in-Replay.is at c.in_ok-options.ensures.asked in
+    let options = c.in-Replay.options in
+    let done = c.replay_named-done.result in
+    let old = c.args.out.now in
+    let new = c.replay_named-done.new.out in
     rw c.with_options-in-Replay.ensures
-    (files-not_served words _ _ c.in-Replay.options _ some (inr asks)
-    (files-fault g.W.Output.held c.in-Replay.options c.replay_named-done.result c.args.out.now c.replay_named-done.new.out
+    (files-not_served words _ _ options done some (inr asks)
+    (begins-at_most (BeginsSome options) g.W.Output.held done old new
+    (some-begun _ _ _ options g.W.Output.held old new done c.replay_named-done.ensures.begun)
     c.replay_named-done.ensures.replayed.untouched))
 
 pub returns-in_ok-show-in-Help-clause-served : goal.returns-in_ok-show-in-Help-clause-served
