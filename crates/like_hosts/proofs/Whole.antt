@@ -38,7 +38,7 @@ module _ (page : ℕ) where
 
   -- the likes of a client are added
   logs-add : (told : List (Named SeatDeed)) (passes : List SeatPass) → length passes ≡ length told
-      → told_likes page (with_logs told passes) ≡ told_likes page told + likes_of page (map log_at passes)
+      → told_likes page (with_logs told passes) ≡ told_likes page told + likes_of (liked_by page) (map log_at passes)
   logs-add told [] same = omega arith
   logs-add [] (p ∷ passes) same = absurd (omega (arith, same))
   logs-add (t ∷ told) (p ∷ passes) same =

@@ -1,7 +1,7 @@
 //! What threads do at a shared service, each with its client.
-ghost use Rattle.std.specs.Prelude.{◌≡◌, ℕ, ◌+◌, ◌<◌, ◌≤◌, if◌then◌else◌, length};
+ghost use Rattle.std.specs.Prelude.{◌≡◌, ◌+◌, ◌<◌, ◌≤◌, [], ◌∷◌, if◌then◌else◌, length};
 ghost use Rattle.like_shared.specs.Shared.{IsClient, seats_of};
-ghost use Rattle.like_hosts.specs.Likes.{LikesNoOther, counted, likes_in};
+ghost use Rattle.like_hosts.specs.Likes.{LikesNone, LikesOnly, counted, likes_in};
 
 use like_live::{DriverAnswer, End, LikeAnswer, TurnAnswer};
 use like_shared::{Busy, Client, SharedService};
@@ -14,7 +14,7 @@ pub fn like_all(service: &SharedService, client: &mut Client, page: u32, users: 
     requires { IsClient service.now client.old }
     ensures client { IsClient service.now client.new }
     ensures likes { likes_in page client.new ≡ likes_in page client.old + result }
-    ensures others { LikesNoOther page client.old client.new }
+    ensures only { LikesOnly page users.now client.old client.new }
     ensures few { result ≤ length users.now }
 {
     let mut liked = 0;
@@ -31,7 +31,7 @@ fn like(service: &SharedService, client: &mut Client, page: u32, user: u32) -> b
     requires { IsClient service.now client.old }
     ensures client { IsClient service.now client.new }
     ensures likes { likes_in page client.new ≡ likes_in page client.old + (if result then 1 else 0) }
-    ensures others { LikesNoOther page client.old client.new }
+    ensures only { LikesOnly page (user ∷ []) client.old client.new }
 {
     for _ in 0..CALLS {
         let answer = client.like(service, user, page);
@@ -61,7 +61,7 @@ fn is_put_off(answer: &Result<LikeAnswer, Busy>) -> bool {
 pub fn drive(service: &SharedService, client: &mut Client)
     requires { IsClient service.now client.old }
     ensures client { IsClient service.now client.new }
-    ensures likes { (page : ℕ) → likes_in page client.new ≡ likes_in page client.old }
+    ensures likes { LikesNone client.old client.new }
 {
     for _ in 0..CALLS {
         if let Ok(DriverAnswer::Ended) = client.turn_driver(service, End::IfItServes) {
@@ -75,7 +75,7 @@ pub fn drive(service: &SharedService, client: &mut Client)
 fn turn_all(service: &SharedService, client: &mut Client)
     requires { IsClient service.now client.old }
     ensures client { IsClient service.now client.new }
-    ensures likes { (page : ℕ) → likes_in page client.new ≡ likes_in page client.old }
+    ensures likes { LikesNone client.old client.new }
 {
     for seat in 0..service.seat_count() {
         let _ = client.turn(service, seat);
@@ -86,7 +86,7 @@ fn turn_all(service: &SharedService, client: &mut Client)
 pub fn retire_all(service: &SharedService, client: &mut Client)
     requires { IsClient service.now client.old }
     ensures client { IsClient service.now client.new }
-    ensures likes { (page : ℕ) → likes_in page client.new ≡ likes_in page client.old }
+    ensures likes { LikesNone client.old client.new }
 {
     for seat in 0..service.seat_count() {
         retire(service, client, seat);
@@ -98,7 +98,7 @@ fn retire(service: &SharedService, client: &mut Client, seat: usize)
     requires client { IsClient service.now client.old }
     requires seat { seat < seats_of service.now }
     ensures client { IsClient service.now client.new }
-    ensures likes { (page : ℕ) → likes_in page client.new ≡ likes_in page client.old }
+    ensures likes { LikesNone client.old client.new }
 {
     for _ in 0..CALLS {
         if let Ok(TurnAnswer::Gone) = client.retire(service, seat) {

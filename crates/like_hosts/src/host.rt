@@ -1,9 +1,9 @@
 //! A host: two threads like a page at one service, while a third drives it.
-ghost use Rattle.std.specs.Prelude.{◌≡◌, ℕ, ◌+◌, ◌<◌, IfOk, IfSome, length};
+ghost use Rattle.std.specs.Prelude.{◌≡◌, ◌≢◌, ℕ, ◌+◌, ◌<◌, ◌≤◌, IfOk, IfSome, Ok, Some, length};
 ghost use Rattle.std.specs.Thread.{IsSync};
 ghost use Rattle.like_shared.specs.Shared.{IsClient, IsServiceKeeper, seats_told};
 ghost use Rattle.like_hosts.specs.Hosts.{HasGrown, IsHosted};
-ghost use Rattle.like_hosts.specs.Likes.{LikesNoOther, likes_in};
+ghost use Rattle.like_hosts.specs.Likes.{LikesNone, LikesOnly, likes_in};
 
 use crate::calls::{drive, like_all, retire_all};
 use like_live::{OpenError, Opening};
@@ -26,6 +26,8 @@ pub fn host<R: Threads + Sync>(
     requires page { page < length counts.old }
     ensures strict { IfOk result (λ closed. IfSome closed (λ _. IsHosted opening.now counts.new)) }
     ensures grown { IfOk result (λ closed. IfSome closed (λ likes. HasGrown opening.now page likes counts.new)) }
+    ensures few { IfOk result (λ closed. IfSome closed (λ likes. likes ≤ length by_one.now + length by_two.now)) }
+    ensures unchanged { ((likes : ℕ) → result ≢ Ok (Some likes)) → counts.new ≡ counts.old }
 {
     let (service, mut keeper) = SharedService::open(alloc, opening)?;
     let mut one = new_client(&service, alloc, &mut keeper)?;
@@ -80,8 +82,9 @@ fn work<R: Threads + Sync>(
     ensures third { IsClient service.now third.new }
     ensures likes { likes_in page one.new + likes_in page two.new
         ≡ likes_in page one.old + likes_in page two.old + result }
-    ensures others { LikesNoOther page one.old one.new × LikesNoOther page two.old two.new }
-    ensures none { (p : ℕ) → likes_in p third.new ≡ likes_in p third.old }
+    ensures only { LikesOnly page by_one.now one.old one.new × LikesOnly page by_two.now two.old two.new }
+    ensures few { result ≤ length by_one.now + length by_two.now }
+    ensures none { LikesNone third.old third.new }
 {
     let (liked, ()) = join_mut(
         rt,
@@ -93,8 +96,9 @@ fn work<R: Threads + Sync>(
             ensures two { IsClient service.entry.now two.exit.now }
             ensures likes { likes_in page one.exit.now + likes_in page two.exit.now
                 ≡ likes_in page one.entry.now + likes_in page two.entry.now + result }
-            ensures others { LikesNoOther page one.entry.now one.exit.now
-                × LikesNoOther page two.entry.now two.exit.now }
+            ensures only { LikesOnly page by_one.entry.now one.entry.now one.exit.now
+                × LikesOnly page by_two.entry.now two.entry.now two.exit.now }
+            ensures few { result ≤ length by_one.entry.now + length by_two.entry.now }
         { like_both(rt, service, one, two, page, by_one, by_two) },
         &mut || drive(service, third),
     );
@@ -117,7 +121,8 @@ fn like_both<R: Threads + Sync>(
     ensures two { IsClient service.now two.new }
     ensures likes { likes_in page one.new + likes_in page two.new
         ≡ likes_in page one.old + likes_in page two.old + result }
-    ensures others { LikesNoOther page one.old one.new × LikesNoOther page two.old two.new }
+    ensures only { LikesOnly page by_one.now one.old one.new × LikesOnly page by_two.now two.old two.new }
+    ensures few { result ≤ length by_one.now + length by_two.now }
 {
     let (told_one, told_two) = join_mut(
         rt,

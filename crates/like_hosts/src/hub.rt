@@ -1,5 +1,5 @@
 //! Hosts of a hub: threads come, like a page, and leave.
-ghost use Rattle.std.specs.Prelude.{◌≡◌, IfOk, IfSome, IsTrue, length};
+ghost use Rattle.std.specs.Prelude.{◌≡◌, ◌≢◌, IfOk, IfSome, IsTrue, Ok, length, true};
 ghost use Rattle.std.specs.Thread.{IsSync};
 ghost use Rattle.told_lock.specs.Rights.{IsIdle};
 ghost use Rattle.like_shared.specs.Shared.{IsClient};
@@ -25,7 +25,8 @@ pub fn host<R: Threads + Sync>(
     counts: &mut [u64],
 ) -> Result<bool, OpenError>
     requires { length counts.old ≡ length opening.now.counts.items }
-    ensures { IfOk result (λ closed. IsTrue closed → IsHosted opening.now counts.new) }
+    ensures strict { IfOk result (λ closed. IsTrue closed → IsHosted opening.now counts.new) }
+    ensures unchanged { result ≢ Ok true → counts.new ≡ counts.old }
 {
     let (hub, mut cards) = Hub::open(alloc, opening)?;
     let mut one = hub.new_card(&mut cards);
@@ -49,7 +50,8 @@ pub fn host_many(
     counts: &mut [u64],
 ) -> Result<bool, OpenError>
     requires { length counts.old ≡ length opening.now.counts.items }
-    ensures { IfOk result (λ closed. IsTrue closed → IsHosted opening.now counts.new) }
+    ensures strict { IfOk result (λ closed. IsTrue closed → IsHosted opening.now counts.new) }
+    ensures unchanged { result ≢ Ok true → counts.new ≡ counts.old }
 {
     let (hub, mut cards) = Hub::open(alloc, opening)?;
     for _ in 0..many {

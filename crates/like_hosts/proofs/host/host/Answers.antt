@@ -1,4 +1,4 @@
-use Rattle.std.proofs.Common.{◌≡◌, ℕ, ◌+◌, ◌<◌, length, ap, ◌∙◌, arith}
+use Rattle.std.proofs.Common.{◌≡◌, ℕ, ◌+◌, ◌<◌, length, refl, ap, ◌∙◌, arith}
 use Rattle.like_shared.specs.Shared.{seats_told}
 use Rattle.like_hosts.specs.Likes.{likes_in}
 use Rattle.like_hosts.proofs.Whole.{client-adds, grown, hosted, none-yet, told_likes}
@@ -44,10 +44,13 @@ returns-clause-grown g c =
             new-two page,
             new-third page,
             w.ensures.likes,
-            w.ensures.none page,
+            w.ensures.none.pages page,
           );
       others = λ p there other.
-          let one = w.ensures.others.0 p other in
-          let two = w.ensures.others.1 p other in
-          omega (arith, told p, is p there, new-one p, new-two p, new-third p, one, two, w.ensures.none p);
+          let one = w.ensures.only.0.others p other in
+          let two = w.ensures.only.1.others p other in
+          omega (arith, told p, is p there, new-one p, new-two p, new-third p, one, two, w.ensures.none.pages p);
     }
+
+pub returns-clause-unchanged : goal.returns-clause-unchanged
+returns-clause-unchanged g c = λ none. absurd (none c.work-liked.result refl)

@@ -1,8 +1,12 @@
+use Rattle.std.proofs.Common.{refl}
 use Rattle.like_hosts.proofs.Whole.{hosted}
 use Rattle.like_hosts.proofs.hub.host_many.Goals as goal
 
-pub returns : goal.returns
-returns c =
+pub returns-clause-strict : goal.returns-clause-strict
+returns-clause-strict c =
     let it = c.in-Ok.ensures.closed in
     λ is_closed. hosted c.args.opening.now c.in_ok-hub.hub.service it.keeper c.close.new.counts
     c.in_ok-hub.ensures.opened it.closed
+
+pub returns-clause-unchanged : goal.returns-clause-unchanged
+returns-clause-unchanged c = λ no. absurd (no refl)
