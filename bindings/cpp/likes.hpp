@@ -109,7 +109,7 @@ public:
         likes_writer_close(writer_);
     }
     Writer(Writer &&other) noexcept : writer_(std::exchange(other.writer_, nullptr)) {}
-    Writer &operator=(Writer &&other) noexcept {
+    Writer &operator=(Writer other) noexcept {
         std::swap(writer_, other.writer_);
         return *this;
     }

@@ -179,7 +179,7 @@ public:
             leaving_->add(handle_);
     }
     Seat(Seat &&other) noexcept : handle_(std::exchange(other.handle_, {})), leaving_(other.leaving_) {}
-    Seat &operator=(Seat &&other) noexcept {
+    Seat &operator=(Seat other) noexcept {
         std::swap(handle_, other.handle_);
         std::swap(leaving_, other.leaving_);
         return *this;
@@ -259,7 +259,7 @@ class Phase {
 public:
     ~Phase() { likes_phase_free(&handle_); }
     Phase(Phase &&other) noexcept : handle_(std::exchange(other.handle_, {})) {}
-    Phase &operator=(Phase &&other) noexcept {
+    Phase &operator=(Phase other) noexcept {
         std::swap(handle_, other.handle_);
         return *this;
     }
@@ -281,7 +281,7 @@ public:
     }
     ~Driver() { likes_driver_free(&handle_); }
     Driver(Driver &&other) noexcept : handle_(std::exchange(other.handle_, {})), leaving_(other.leaving_) {}
-    Driver &operator=(Driver &&other) noexcept {
+    Driver &operator=(Driver other) noexcept {
         std::swap(handle_, other.handle_);
         std::swap(leaving_, other.leaving_);
         return *this;

@@ -176,7 +176,11 @@ static void writers() {
     other.close();
     hold(thrown([&] { other.flush(); }) == LIKES_NOT_STARTED, "a flush after the end of a writer");
     service.writer().like(3, 1);
-    hold(service.stop().counts[1] == counts[1] + 2, "the likes of a writer that was destroyed");
+    likes::Writer last = service.writer(), next = service.writer();
+    last.like(3, 1);
+    last = std::move(next); // the first one ends here
+    last.close();
+    hold(service.stop().counts[1] == counts[1] + 3, "the likes of writers that were destroyed or replaced");
 }
 
 // A seat leaves and comes back. Likes of its users stay kept by a writer meanwhile.
