@@ -26,7 +26,8 @@ class Found(NamedTuple):
 
 
 class _Handled:
-    """A handle, for one call at a time. A signal handler may make another one in the middle of a call."""
+    """A handle, for one call at a time. A signal handler may make another one in the middle of a call. It is freed once
+    nobody has it any more."""
 
     def __init__(self, handle: Any = None) -> None:
         self._library, self._handle, self._lock = load(), handle or Handle(), threading.RLock()
@@ -42,6 +43,13 @@ class _Handled:
     def _end(self, free: Any) -> None:
         with self._lock:
             free(self._at)
+
+    def _free(self) -> None:
+        """Gives back what C has of it."""
+
+    def __del__(self) -> None:
+        if hasattr(self, "_at"):  # not where there is no library
+            self._free()
 
 
 class Seat(_Handled):
@@ -218,4 +226,7 @@ class Driver(_Handled):
         """Frees the seats, the phase and the driver."""
         for owned in self._owned:
             owned._free()
+        self._free()
+
+    def _free(self) -> None:
         self._end(self._library.likes_driver_free)
