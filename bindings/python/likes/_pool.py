@@ -76,6 +76,8 @@ class Pool:
         self._service = service
         length = min(4 * (os.cpu_count() or 1), service.seats)
         self._lanes = [service.writer() for _ in range(length)]
+        for writer in self._lanes:
+            writer._service = None  # the pool has it, and its thread keeps neither
         self._flushing = Flushing(self._lanes, max(period, LEAST))
 
     def __del__(self) -> None:

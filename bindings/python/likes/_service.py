@@ -91,6 +91,8 @@ class Likes:
     of the pages that are split in every split phase. period is the time from the end of one split phase to that of the
     next, in seconds. lasts has the page of each user's last like, or None; if it is None or empty, nobody has one. With
     the Moment of another service, a service goes on from there.
+
+    A service that nobody has any more, nor a writer or a pool of it, is ended.
     """
 
     def __init__(
@@ -134,6 +136,7 @@ class Likes:
 
     def _prepare(self) -> None:
         """What it has before it is opened."""
+        self._process, self._has_begun = os.getpid(), False
         self._library, self._at, self._end = load(), c_void_p(), None  # type: Any, Any, Optional[Moment]
         self._calls, self._ending, self._runs = Calls(), threading.RLock(), itertools.count()
         self._opening, self._writers = threading.RLock(), set()  # type: Any, Set[Kept]
@@ -147,6 +150,13 @@ class Likes:
         self._users = int(self._library.likes_service_users(self._at))
         self._seats = int(self._library.likes_service_seats(self._at))
         self._rows = [threading.RLock() for _ in range(self._seats)]
+        self._has_begun = True
+
+    def __del__(self) -> None:
+        if getattr(self, "_has_begun", False) and is_whole(self._process):
+            for kept in list(self._writers):
+                kept.is_dropped = True
+            self.stop()
 
     def __enter__(self) -> "Likes":
         return self
@@ -206,7 +216,7 @@ class Likes:
 
     def writer(self) -> "Writer":
         """Opens a writer, for a thread's likes. It is closed before the service."""
-        writer = Writer(Kept(self._writers))
+        writer = Writer(self, Kept(self._writers))
         try:
             refuse_again(self._opening, "ends the service, or opens a writer")
             # Before an end has seen which writers are open, or after new calls are kept out.
@@ -376,6 +386,12 @@ class Likes:
         self.stop()
 
 
+def is_whole(process: int) -> bool:
+    """Whether what is dropped may wait. In the child of a fork, and at the end of the program, other threads may never
+    give back what it waits for."""
+    return process == os.getpid() and not sys.is_finalizing()
+
+
 class Kept:
     """A writer as C has it. Its service knows it until it is closed, also if nobody has its Writer any more."""
 
@@ -406,8 +422,7 @@ class Kept:
     def drop(self) -> None:
         """Nobody has its Writer any more: it is flushed, or the end of the service tries again."""
         self.is_dropped = True
-        # In the child of a fork, and at the end of the program, other threads may never give back what it waits for.
-        if self.is_open() and self._process == os.getpid() and not sys.is_finalizing():
+        if self.is_open() and is_whole(self._process):
             try:
                 self.close()
             except Refused:
@@ -438,7 +453,8 @@ class Writer:
     the service, or lost with a RuntimeWarning.
     """
 
-    def __init__(self, kept: Kept) -> None:
+    def __init__(self, service: Likes, kept: Kept) -> None:
+        self._service: Optional[Likes] = service  # it doesn't end before its writers
         self._kept, self._library, self._lock = kept, kept.library, kept.lock
         self._at, self._ends = kept.at, kept.ends
 

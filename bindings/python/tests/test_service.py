@@ -466,6 +466,27 @@ class Service(unittest.TestCase):
             service.bring_back_seat(0)
         self.assertEqual(service.stop().counts, [7, 3])
 
+    def test_dropped_services(self) -> None:
+        """A service that nobody has any more is ended, with its thread, also one in a cycle with its writer or its pool. As
+        long as somebody has one of these, it goes on."""
+        threads = "/proc/self/task"
+        before = len(os.listdir(threads))
+        openings: List[Callable[[Likes], Any]] = [Likes.writer, Likes.pool]
+        for opening in openings:
+            kept = opening(opened(period=100))
+            kept.like(4, 1)
+            self.assertEqual(kept.look(4, 1), Seen(1, 1))
+            del kept
+            service: Any = opened()
+            service.retire_seat(0)
+            service.kept = opening(service)
+            service.kept.like(4, 0)
+            with self.assertWarnsRegex(RuntimeWarning, "^1 likes of a writer"):
+                del service
+                gc.collect()
+        while len(os.listdir(threads)) > before:
+            time.sleep(0.001)
+
     def test_lost_likes(self) -> None:
         """What a dropped writer or pool keeps for a seat that has left for good is told."""
         openings: List[Callable[[Likes], Any]] = [Likes.writer, Likes.pool]
