@@ -9,6 +9,7 @@ from types import TracebackType
 from typing import TYPE_CHECKING, List, Optional, Type
 
 from ._errors import Closed, Refused, check, refuse_again
+from ._library import whole
 from ._rows import Seen
 from ._statuses import Status
 
@@ -103,7 +104,7 @@ class Pool:
 
     def _lane(self, user: int) -> "Writer":
         """The writer of a user. Each seat has one."""
-        return self._lanes[user % self._service.seats % len(self._lanes)]
+        return self._lanes[whole("user", user) % self._service.seats % len(self._lanes)]
 
     def like(self, user: int, page: int) -> None:
         """Keeps a like, as Writer.like does."""

@@ -145,7 +145,7 @@ class Likes:
 
     def _begin(self, period: Optional[float]) -> None:
         """Once it is opened."""
-        self._period = LEAST if period is None else period
+        self._period = LEAST if period is None else float(period)
         self._pages = int(self._library.likes_service_pages(self._at))
         self._users = int(self._library.likes_service_users(self._at))
         self._seats = int(self._library.likes_service_seats(self._at))

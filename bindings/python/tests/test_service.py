@@ -13,6 +13,7 @@ import time
 import unittest
 import warnings
 from contextlib import suppress
+from fractions import Fraction
 from typing import Any, Callable, Dict, List, Tuple
 from unittest import mock
 
@@ -352,6 +353,24 @@ class Service(unittest.TestCase):
                 self.assertRaises(Closed, call)
             self.assertEqual(pool.drop(), 0)
         self.assertEqual((wrong, sum(service.stop().counts)), ([], 6 + threads * each))
+
+    def test_numbers_of_other_types(self) -> None:
+        """A pool takes what a service takes, as numbers of arrays."""
+
+        class Number:
+            def __init__(self, value: int) -> None:
+                self._value = value
+
+            def __index__(self) -> int:
+                return self._value
+
+        page: Any = Number(1)
+        with opened(period=Fraction(1, 500)) as service, service.pool() as pool:
+            pool.like(page, page)
+            until = time.monotonic() + 10
+            while service.counts() != [5, 1] and time.monotonic() < until:
+                time.sleep(0.001)
+            self.assertEqual((service.counts(), pool.look(page, page)), ([5, 1], Seen(1, 1)))
 
     def test_pools_of_seats_that_leave(self) -> None:
         with opened(users=4) as service, service.pool() as pool:
