@@ -62,6 +62,10 @@ class Core(unittest.TestCase):
         self.refused(Status.WRONG_RANGE, first.lasts, 1, 2)
         self.refused(Status.WRONG_RANGE, self.driver.snapshot, 1, 2)
         self.refused(Status.WRONG_RANGE, self.driver.last_counts, 3)
+        # Nor does a wrong length take the memory for it.
+        self.refused(Status.WRONG_RANGE, first.lasts, 0, 2**32 - 1)
+        self.refused(Status.WRONG_RANGE, self.driver.snapshot, 0, 2**32 - 1)
+        self.assertEqual(self.driver.split_pages(2**32 - 1), [0])
         self.refused(Status.UNKNOWN_END, self.driver.turn, 3)
         self.assertIsNone(self.driver.take_seat())
 
