@@ -15,7 +15,7 @@ from types import TracebackType
 from typing import Any, List, NamedTuple, Optional, Sequence, Set, Type
 
 from ._errors import Closed, Refused, check, check_file, lock_fault, refuse_again
-from ._library import MOST, Answer, FoundLook, Opening, last_of, load, microseconds, path_of, row_of, whole
+from ._library import MOST, Answer, FoundLook, Opening, Path, last_of, load, microseconds, path_of, row_of, whole
 from ._library import Statistics as StatisticsOfC
 from ._pool import LEAST, Pool
 from ._rows import Asked, Row, Seen, Shown, Told, seen, shown
@@ -114,7 +114,7 @@ class Likes:
     @classmethod
     def load(
         cls,
-        path: str,
+        path: Path,
         users: int = 0,
         pages: int = 0,
         seats: Optional[int] = None,
@@ -292,7 +292,7 @@ class Likes:
         check(self._call(self._library.likes_service_snapshot, *words), Status.COUNTED)
         return Moment(list(counts), [last_of(page) for page in lasts])
 
-    def save(self, path: str) -> None:
+    def save(self, path: Path) -> None:
         """Saves such a moment to a file. After a crash there is the old file or the new one. An OSError says why it
         can't be written."""
         check_file(self._call(self._library.likes_service_save, path_of(path)), path)

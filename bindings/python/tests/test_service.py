@@ -14,6 +14,7 @@ import unittest
 import warnings
 from contextlib import suppress
 from fractions import Fraction
+from pathlib import Path
 from typing import Any, Callable, Dict, List, Tuple
 from unittest import mock
 
@@ -224,16 +225,18 @@ class Service(unittest.TestCase):
             path = os.path.join(folder, "likes.saved")
             with opened(users=3) as first:
                 first.like(2, 1)
-                first.save(path)
+                first.save(Path(path))
                 moment = first.snapshot()
-            with Likes.load(path) as same, Likes.load(path, users=4, pages=3, seats=2) as grown:
+            with Likes.load(Path(path)) as same, Likes.load(path, users=4, pages=3, seats=2) as grown:
                 self.assertEqual(same.snapshot(), moment)
                 self.assertEqual(grown.snapshot(), Moment([*moment.counts, 0], [*moment.lasts, None]))
             self.refused(Status.WRONG_LENGTH, Likes.load, path, 2)
             with open(path, "ab") as file:
                 file.write(b"more")
             self.refused(Status.WRONG_SIZE, Likes.load, path)
-            self.assertRaises(FileNotFoundError, Likes.load, path + "?")
+            with self.assertRaises(FileNotFoundError) as caught:
+                Likes.load(Path(path + "?"))
+            self.assertEqual(caught.exception.filename, path + "?")
             self.assertRaises(Closed, first.save, path)
             calls: List[Callable[[str], object]] = [Likes.load, first.save]
             for call in calls:
