@@ -8,7 +8,7 @@ from ctypes import byref, c_uint32, c_uint64
 from typing import Any, List, NamedTuple, Optional, Sequence, Union
 
 from ._errors import Closed, check, outcome
-from ._library import MOST_64, Answer, DriverHandle, FoundLook, Handle, Opening, last_of, load, row_of, whole
+from ._library import MOST_64, Answer, DriverHandle, FoundLook, Handle, Opening, Single, last_of, load, row_of, whole
 from ._rows import Asked, Row, Seen, Told, seen, shown
 from ._statuses import MAX_SPLIT, End, Status
 
@@ -25,7 +25,7 @@ class Found(NamedTuple):
     last: Optional[int]
 
 
-class _Handled:
+class _Handled(Single):
     """A handle, for one call at a time. A signal handler may make another one in the middle of a call. It is freed once
     nobody has it any more."""
 

@@ -5,7 +5,7 @@ import operator
 import os
 from ctypes import POINTER, Structure, c_bool, c_char_p, c_size_t, c_uint32, c_uint64, c_void_p
 from functools import lru_cache
-from typing import Any, Optional, Sequence, Union
+from typing import Any, NoReturn, Optional, Sequence, Union
 
 from ._statuses import MAX_PERIOD_US, NO_PAGE
 
@@ -198,6 +198,13 @@ def microseconds(name: str, seconds: float, most: int) -> int:
 def given(name: str, number: Optional[int]) -> int:
     """A number for C, where 0 is the default. Here that is None, and 0 is a wrong number."""
     return 0 if number is None else whole(name, number) or MOST
+
+
+class Single:
+    """What C has once. It can't be copied or pickled: the end of a copy would be its end, too."""
+
+    def __reduce__(self) -> NoReturn:
+        raise TypeError(f"cannot copy or pickle a {type(self).__name__}")
 
 
 class Opening:

@@ -9,7 +9,7 @@ from types import TracebackType
 from typing import TYPE_CHECKING, List, Optional, Type
 
 from ._errors import Closed, Refused, check, refuse_again
-from ._library import whole
+from ._library import Single, whole
 from ._rows import Seen
 from ._statuses import Status
 
@@ -65,7 +65,7 @@ def flush(lanes: "List[Writer]") -> None:
         check(told, Status.OK)
 
 
-class Pool:
+class Pool(Single):
     """Writers that any thread may use, as in a server with a thread for each request. All likes of a user go through
     the same writer, and are counted in their order. The pool flushes its writers: a like is counted within about a
     period, or a millisecond if that is longer, as long as there is a processor.

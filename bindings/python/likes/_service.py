@@ -15,8 +15,9 @@ from types import TracebackType
 from typing import Any, List, NamedTuple, Optional, Sequence, Set, Type
 
 from ._errors import Closed, Refused, check, check_file, lock_fault, refuse_again
-from ._library import MOST, Answer, FoundLook, Opening, Path, last_of, load, microseconds, path_of, row_of, whole
+from ._library import MOST, Answer, FoundLook, Opening, Path, Single
 from ._library import Statistics as StatisticsOfC
+from ._library import last_of, load, microseconds, path_of, row_of, whole
 from ._pool import LEAST, Pool
 from ._rows import Asked, Row, Seen, Shown, Told, seen, shown
 from ._statuses import MAX_SPLIT, Status
@@ -84,7 +85,7 @@ class Calls:
                     pass
 
 
-class Likes:
+class Likes(Single):
     """A service. Any thread may call it.
 
     What isn't given has the default of likes.h; with NO_HOT as hot, no page gets hot by itself. marks has the numbers
@@ -441,7 +442,7 @@ class Kept:
             warnings.warn(f"{lost} likes of a writer that wasn't closed are lost: {why}", RuntimeWarning, stacklevel=3)
 
 
-class Writer:
+class Writer(Single):
     """Likes of a thread, which it keeps in rows and hands over as a whole. Calls by several threads wait for each
     other.
 

@@ -18,7 +18,8 @@ from pathlib import Path
 from typing import Any, Callable, Dict, List, Tuple
 from unittest import mock
 
-from likes import GLANCE, LIKE, LIKED, LOOK, NO_HOT, Closed, Likes, Moment, Refused, Seen, Status, Told, _pool, _service
+from likes import GLANCE, LIKE, LIKED, LOOK, NO_HOT, Closed, Driver, Likes, Moment, Refused, Seen, Status, Told
+from likes import _pool, _service
 
 from .numbers import OUTSIDE, WRONG
 
@@ -773,6 +774,18 @@ class Refusals(unittest.TestCase):
             for other in (pickle.loads(pickle.dumps(error)), copy.copy(error)):
                 self.assertEqual((type(other), str(other)), (type(error), str(error)))
                 self.assertEqual(vars(other), vars(error))
+
+    def test_single(self) -> None:
+        """What C has once isn't copied, and goes on."""
+        driver = Driver([0], users=1)
+        copies: List[Callable[[Any], object]] = [copy.copy, copy.deepcopy, pickle.dumps]
+        with opened() as service, service.writer() as writer, service.pool() as pool:
+            for it in (service, writer, pool, driver, driver.take_seat()):
+                for make in copies:
+                    self.assertRaises(TypeError, make, it)
+            writer.like(4, 1)
+            pool.like(4, 1)
+        self.assertEqual((service.stop().counts, driver.turn()), ([5, 2], Status.GOES_ON))
 
 
 if __name__ == "__main__":
