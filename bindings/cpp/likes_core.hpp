@@ -6,6 +6,7 @@
 
 #include <likes.h>
 
+#include <algorithm>
 #include <chrono>
 #include <cstdint>
 #include <memory>
@@ -324,7 +325,7 @@ public:
 
     // The pages that are split in the present split phase, or were in the last one.
     std::vector<std::uint32_t> split_pages(std::size_t most = LIKES_MAX_SPLIT) {
-        std::vector<std::uint32_t> pages(most);
+        std::vector<std::uint32_t> pages(std::min<std::size_t>(most, LIKES_MAX_SPLIT));
         pages.resize(likes_driver_split_pages(&handle_, pages.data(), pages.size()));
         return pages;
     }

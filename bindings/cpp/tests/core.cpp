@@ -144,6 +144,7 @@ static void split_pages() {
     }
     two.change_phase();
     hold(two.driver.split_pages().size() == 2 && two.driver.split_pages(1).size() == 1, "a page is proposed");
+    hold(two.driver.split_pages(SIZE_MAX).size() == 2, "all pages, with more room than memory");
     two.driver.propose({});
     std::optional<likes::Phase> phase = two.driver.take_phase();
     hold(phase && phase->now() == 3 && !two.driver.take_phase(), "the phase");
