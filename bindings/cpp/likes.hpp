@@ -109,7 +109,7 @@ public:
         likes_writer_close(writer_);
     }
     Writer(Writer &&other) noexcept : writer_(std::exchange(other.writer_, nullptr)) {}
-    Writer &operator=(Writer &&other) noexcept {
+    Writer &operator=(Writer other) noexcept {
         std::swap(writer_, other.writer_);
         return *this;
     }
@@ -175,10 +175,11 @@ public:
         return *seen(answer);
     }
 
-    // The exact count, or no answer if that takes longer.
-    std::optional<Seen> look_within(std::uint32_t user, std::uint32_t page, std::chrono::microseconds time) {
+    // The exact count, or no answer if that takes longer. A double holds any duration.
+    std::optional<Seen> look_within(std::uint32_t user, std::uint32_t page,
+                                    std::chrono::duration<double, std::micro> time) {
         likes_answer answer = {};
-        auto limit = std::clamp<std::chrono::microseconds::rep>(time.count(), 0, UINT32_MAX);
+        auto limit = time.count() > 0 ? std::min(time.count(), double{UINT32_MAX}) : 0;
         auto status = likes_service_look_within(service_, user, page, static_cast<std::uint32_t>(limit), &answer);
         if (status != LIKES_LATE)
             expect(status, LIKES_SEEN);

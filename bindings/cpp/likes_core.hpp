@@ -6,6 +6,7 @@
 
 #include <likes.h>
 
+#include <algorithm>
 #include <chrono>
 #include <cstdint>
 #include <memory>
@@ -179,7 +180,7 @@ public:
             leaving_->add(handle_);
     }
     Seat(Seat &&other) noexcept : handle_(std::exchange(other.handle_, {})), leaving_(other.leaving_) {}
-    Seat &operator=(Seat &&other) noexcept {
+    Seat &operator=(Seat other) noexcept {
         std::swap(handle_, other.handle_);
         std::swap(leaving_, other.leaving_);
         return *this;
@@ -259,7 +260,7 @@ class Phase {
 public:
     ~Phase() { likes_phase_free(&handle_); }
     Phase(Phase &&other) noexcept : handle_(std::exchange(other.handle_, {})) {}
-    Phase &operator=(Phase &&other) noexcept {
+    Phase &operator=(Phase other) noexcept {
         std::swap(handle_, other.handle_);
         return *this;
     }
@@ -281,7 +282,7 @@ public:
     }
     ~Driver() { likes_driver_free(&handle_); }
     Driver(Driver &&other) noexcept : handle_(std::exchange(other.handle_, {})), leaving_(other.leaving_) {}
-    Driver &operator=(Driver &&other) noexcept {
+    Driver &operator=(Driver other) noexcept {
         std::swap(handle_, other.handle_);
         std::swap(leaving_, other.leaving_);
         return *this;
@@ -324,7 +325,7 @@ public:
 
     // The pages that are split in the present split phase, or were in the last one.
     std::vector<std::uint32_t> split_pages(std::size_t most = LIKES_MAX_SPLIT) {
-        std::vector<std::uint32_t> pages(most);
+        std::vector<std::uint32_t> pages(std::min<std::size_t>(most, LIKES_MAX_SPLIT));
         pages.resize(likes_driver_split_pages(&handle_, pages.data(), pages.size()));
         return pages;
     }

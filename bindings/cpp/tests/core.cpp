@@ -101,6 +101,14 @@ static void refusals() {
     hold(thrown([&] { first.turn(); }) == LIKES_EMPTY && moved.turn() == LIKES_RUNS, "a seat that was moved");
 }
 
+// A seat that another takes the place of retires at once, as one that is destroyed.
+static void replaced() {
+    Two two;
+    two.seats[0] = std::move(two.seats[1]);
+    hold(two.seats[0].retire() == LIKES_GONE && two.driver.turn() == LIKES_ENDED, "a seat that is replaced");
+    two.last_counts({10, 0});
+}
+
 static void rows() {
     Two two;
     two.change_phase();
@@ -136,6 +144,7 @@ static void split_pages() {
     }
     two.change_phase();
     hold(two.driver.split_pages().size() == 2 && two.driver.split_pages(1).size() == 1, "a page is proposed");
+    hold(two.driver.split_pages(SIZE_MAX).size() == 2, "all pages, with more room than memory");
     two.driver.propose({});
     std::optional<likes::Phase> phase = two.driver.take_phase();
     hold(phase && phase->now() == 3 && !two.driver.take_phase(), "the phase");
@@ -225,6 +234,7 @@ static void threads() {
 int main() {
     three_phases();
     refusals();
+    replaced();
     rows();
     snapshots();
     split_pages();

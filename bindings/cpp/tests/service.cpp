@@ -142,6 +142,10 @@ static void deadlines() {
     hold(!service.look_within(4, 1, 1ms) && !service.look_within(4, 1, -1s), "a look that is late");
     hold(service.statistics().late >= 1, "looks that are late");
     hold(service.look_within(4, 0, 0ms).has_value(), "a look that needn't wait");
+    likes::Service quick(marked(9, 1, 200us), {5, 7});
+    while (quick.statistics().waits == 0)
+        hold(quick.look_within(4, 1, std::chrono::hours::max()).has_value(), "a look that may wait for ever");
+    hold(quick.look_within(4, 1, 1000000000ns).has_value(), "a limit in nanoseconds");
 }
 
 // Threads that serve any user, by writers: each like is counted once, and a look shows what the writer was told before.
@@ -176,7 +180,11 @@ static void writers() {
     other.close();
     hold(thrown([&] { other.flush(); }) == LIKES_NOT_STARTED, "a flush after the end of a writer");
     service.writer().like(3, 1);
-    hold(service.stop().counts[1] == counts[1] + 2, "the likes of a writer that was destroyed");
+    likes::Writer last = service.writer(), next = service.writer();
+    last.like(3, 1);
+    last = std::move(next); // the first one ends here
+    last.close();
+    hold(service.stop().counts[1] == counts[1] + 3, "the likes of writers that were destroyed or replaced");
 }
 
 // A seat leaves and comes back. Likes of its users stay kept by a writer meanwhile.

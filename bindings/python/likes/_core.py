@@ -8,7 +8,7 @@ from ctypes import byref, c_uint32, c_uint64
 from typing import Any, List, NamedTuple, Optional, Sequence, Union
 
 from ._errors import Closed, check, outcome
-from ._library import MOST_64, Answer, DriverHandle, FoundLook, Handle, Opening, last_of, load, row_of, whole
+from ._library import MOST_64, Answer, DriverHandle, FoundLook, Handle, Opening, Single, last_of, load, row_of, whole
 from ._rows import Asked, Row, Seen, Told, seen, shown
 from ._statuses import MAX_SPLIT, End, Status
 
@@ -25,8 +25,9 @@ class Found(NamedTuple):
     last: Optional[int]
 
 
-class _Handled:
-    """A handle, for one call at a time. A signal handler may make another one in the middle of a call."""
+class _Handled(Single):
+    """A handle, for one call at a time. A signal handler may make another one in the middle of a call. It is freed once
+    nobody has it any more."""
 
     def __init__(self, handle: Any = None) -> None:
         self._library, self._handle, self._lock = load(), handle or Handle(), threading.RLock()
@@ -43,10 +44,21 @@ class _Handled:
         with self._lock:
             free(self._at)
 
+    def _free(self) -> None:
+        """Gives back what C has of it."""
+
+    def __del__(self) -> None:
+        if hasattr(self, "_at"):  # not where there is no library
+            self._free()
+
 
 class Seat(_Handled):
     """A worker. While a phase is ending, each seat that isn't gone is called, by turn if there is nothing else to do: a
     seat that isn't called holds up all others."""
+
+    def __init__(self, users: int) -> None:
+        super().__init__()
+        self._users = users  # of the driver
 
     def like(self, user: int, page: int) -> Status:
         """Adds one like: LIKED, BETWEEN, LIKE_LIMIT or GONE."""
@@ -96,7 +108,8 @@ class Seat(_Handled):
 
     def lasts(self, start: int, length: int) -> List[Optional[int]]:
         """The last likes of the seat's users number start, start + 1 and so on."""
-        start, length = whole("start", start), whole("length", length)
+        # More than all would only take memory: the range is wrong in any case.
+        start, length = whole("start", start), min(whole("length", length), self._users + 1)
         pages = (c_uint32 * (length + 1))()
         check(self._call(self._library.likes_seat_lasts, start, pages, length), Status.OK)
         return [last_of(page) for page in pages[:length]]
@@ -148,9 +161,9 @@ class Driver(_Handled):
         lasts: Optional[Sequence[Optional[int]]] = None,
     ) -> None:
         super().__init__(DriverHandle())
-        self._pages = len(counts)
         self._owned: List[Any] = []
         opening = Opening(counts, users, seats, room, hot, marks, lasts, None)
+        self._pages, self._users = len(counts), int(opening.options.users)
         check(self._library.likes_open(opening.options, self._at), Status.OK)
 
     def __enter__(self) -> "Driver":
@@ -162,7 +175,7 @@ class Driver(_Handled):
     def take_seat(self) -> Optional[Seat]:
         """The next seat, or None if all are taken. A phase changes only when every seat has answered, so take them
         all."""
-        seat = Seat()
+        seat = Seat(self._users)
         return seat if self._take(self._library.likes_driver_take_seat, seat) else None
 
     def take_phase(self) -> Optional[Phase]:
@@ -196,14 +209,14 @@ class Driver(_Handled):
 
     def _counts(self, call: Any, start: int, length: Optional[int]) -> Optional[List[int]]:
         start = whole("start", start)
-        length = max(0, self._pages - start) if length is None else whole("length", length)
+        length = max(0, self._pages - start) if length is None else min(whole("length", length), self._pages + 1)
         counts = (c_uint64 * (length + 1))()
         status = outcome(self._call(call, start, counts, length))
         return list(counts[:length]) if status == Status.COUNTED else None
 
     def split_pages(self, most: int = MAX_SPLIT) -> List[int]:
         """The pages that are split in the present split phase, or were in the last one."""
-        most = whole("most", most)
+        most = min(whole("most", most), MAX_SPLIT)
         pages = (c_uint32 * (most + 1))()
         told = self._call(self._library.likes_driver_split_pages, pages, most)
         return list(pages[:told])
@@ -218,4 +231,7 @@ class Driver(_Handled):
         """Frees the seats, the phase and the driver."""
         for owned in self._owned:
             owned._free()
+        self._free()
+
+    def _free(self) -> None:
         self._end(self._library.likes_driver_free)

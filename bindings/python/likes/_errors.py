@@ -4,6 +4,7 @@ import os
 from ctypes import get_errno
 from typing import Any, Tuple, Type
 
+from ._library import Path
 from ._statuses import FIRST_ERROR, STATUSES, Status
 
 
@@ -56,8 +57,8 @@ def lock_fault(number: int) -> int:
     return Status.NO_MEMORY if number == Status.OK else number
 
 
-def check_file(number: int, path: str) -> None:
+def check_file(number: int, path: Path) -> None:
     """Raises a status of a call that reads or writes a file, but OK."""
     if number == Status.FILE_FAULT:
-        raise OSError(get_errno(), os.strerror(get_errno()), path)
+        raise OSError(get_errno(), os.strerror(get_errno()), os.fspath(path))
     check(number, Status.OK)

@@ -5,7 +5,7 @@ import operator
 import os
 from ctypes import POINTER, Structure, c_bool, c_char_p, c_size_t, c_uint32, c_uint64, c_void_p
 from functools import lru_cache
-from typing import Any, Optional, Sequence
+from typing import Any, NoReturn, Optional, Sequence, Union
 
 from ._statuses import MAX_PERIOD_US, NO_PAGE
 
@@ -13,6 +13,8 @@ VERSION = 6  # LIKES_VERSION of the likes.h that this package is written for
 SHARED = "liblikes.so.0.6"
 MOST = 2**32 - 1
 MOST_64 = 2**64 - 1
+
+Path = Union[str, "os.PathLike[str]"]
 
 
 class Handle(Structure):
@@ -168,7 +170,7 @@ def row_of(name: str, values: Sequence[Any]) -> Any:
     return (c_uint32 * (len(values) + 1))(*(whole(name, value) for value in values))
 
 
-def path_of(path: str) -> bytes:
+def path_of(path: Path) -> bytes:
     """A path for C, which would take what is before a byte 0 for the whole of it."""
     name = os.fsencode(path)
     if b"\0" in name:
@@ -196,6 +198,13 @@ def microseconds(name: str, seconds: float, most: int) -> int:
 def given(name: str, number: Optional[int]) -> int:
     """A number for C, where 0 is the default. Here that is None, and 0 is a wrong number."""
     return 0 if number is None else whole(name, number) or MOST
+
+
+class Single:
+    """What C has once. It can't be copied or pickled: the end of a copy would be its end, too."""
+
+    def __reduce__(self) -> NoReturn:
+        raise TypeError(f"cannot copy or pickle a {type(self).__name__}")
 
 
 class Opening:

@@ -9,6 +9,7 @@ from types import TracebackType
 from typing import TYPE_CHECKING, List, Optional, Type
 
 from ._errors import Closed, Refused, check, refuse_again
+from ._library import Single, whole
 from ._rows import Seen
 from ._statuses import Status
 
@@ -64,7 +65,7 @@ def flush(lanes: "List[Writer]") -> None:
         check(told, Status.OK)
 
 
-class Pool:
+class Pool(Single):
     """Writers that any thread may use, as in a server with a thread for each request. All likes of a user go through
     the same writer, and are counted in their order. The pool flushes its writers: a like is counted within about a
     period, or a millisecond if that is longer, as long as there is a processor.
@@ -76,6 +77,8 @@ class Pool:
         self._service = service
         length = min(4 * (os.cpu_count() or 1), service.seats)
         self._lanes = [service.writer() for _ in range(length)]
+        for writer in self._lanes:
+            writer._service = None  # the pool has it, and its thread keeps neither
         self._flushing = Flushing(self._lanes, max(period, LEAST))
 
     def __del__(self) -> None:
@@ -101,7 +104,7 @@ class Pool:
 
     def _lane(self, user: int) -> "Writer":
         """The writer of a user. Each seat has one."""
-        return self._lanes[user % self._service.seats % len(self._lanes)]
+        return self._lanes[whole("user", user) % self._service.seats % len(self._lanes)]
 
     def like(self, user: int, page: int) -> None:
         """Keeps a like, as Writer.like does."""

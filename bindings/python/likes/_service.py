@@ -15,8 +15,9 @@ from types import TracebackType
 from typing import Any, List, NamedTuple, Optional, Sequence, Set, Type
 
 from ._errors import Closed, Refused, check, check_file, lock_fault, refuse_again
-from ._library import MOST, Answer, FoundLook, Opening, last_of, load, microseconds, path_of, row_of, whole
+from ._library import MOST, Answer, FoundLook, Opening, Path, Single
 from ._library import Statistics as StatisticsOfC
+from ._library import last_of, load, microseconds, path_of, row_of, whole
 from ._pool import LEAST, Pool
 from ._rows import Asked, Row, Seen, Shown, Told, seen, shown
 from ._statuses import MAX_SPLIT, Status
@@ -84,13 +85,15 @@ class Calls:
                     pass
 
 
-class Likes:
+class Likes(Single):
     """A service. Any thread may call it.
 
     What isn't given has the default of likes.h; with NO_HOT as hot, no page gets hot by itself. marks has the numbers
     of the pages that are split in every split phase. period is the time from the end of one split phase to that of the
     next, in seconds. lasts has the page of each user's last like, or None; if it is None or empty, nobody has one. With
     the Moment of another service, a service goes on from there.
+
+    A service that nobody has any more, nor a writer or a pool of it, is ended.
     """
 
     def __init__(
@@ -112,7 +115,7 @@ class Likes:
     @classmethod
     def load(
         cls,
-        path: str,
+        path: Path,
         users: int = 0,
         pages: int = 0,
         seats: Optional[int] = None,
@@ -134,6 +137,7 @@ class Likes:
 
     def _prepare(self) -> None:
         """What it has before it is opened."""
+        self._process, self._has_begun = os.getpid(), False
         self._library, self._at, self._end = load(), c_void_p(), None  # type: Any, Any, Optional[Moment]
         self._calls, self._ending, self._runs = Calls(), threading.RLock(), itertools.count()
         self._opening, self._writers = threading.RLock(), set()  # type: Any, Set[Kept]
@@ -142,11 +146,18 @@ class Likes:
 
     def _begin(self, period: Optional[float]) -> None:
         """Once it is opened."""
-        self._period = LEAST if period is None else period
+        self._period = LEAST if period is None else float(period)
         self._pages = int(self._library.likes_service_pages(self._at))
         self._users = int(self._library.likes_service_users(self._at))
         self._seats = int(self._library.likes_service_seats(self._at))
         self._rows = [threading.RLock() for _ in range(self._seats)]
+        self._has_begun = True
+
+    def __del__(self) -> None:
+        if getattr(self, "_has_begun", False) and is_whole(self._process):
+            for kept in list(self._writers):
+                kept.is_dropped = True
+            self.stop()
 
     def __enter__(self) -> "Likes":
         return self
@@ -206,7 +217,7 @@ class Likes:
 
     def writer(self) -> "Writer":
         """Opens a writer, for a thread's likes. It is closed before the service."""
-        writer = Writer(Kept(self._writers))
+        writer = Writer(self, Kept(self._writers))
         try:
             refuse_again(self._opening, "ends the service, or opens a writer")
             # Before an end has seen which writers are open, or after new calls are kept out.
@@ -282,7 +293,7 @@ class Likes:
         check(self._call(self._library.likes_service_snapshot, *words), Status.COUNTED)
         return Moment(list(counts), [last_of(page) for page in lasts])
 
-    def save(self, path: str) -> None:
+    def save(self, path: Path) -> None:
         """Saves such a moment to a file. After a crash there is the old file or the new one. An OSError says why it
         can't be written."""
         check_file(self._call(self._library.likes_service_save, path_of(path)), path)
@@ -376,6 +387,12 @@ class Likes:
         self.stop()
 
 
+def is_whole(process: int) -> bool:
+    """Whether what is dropped may wait. In the child of a fork, and at the end of the program, other threads may never
+    give back what it waits for."""
+    return process == os.getpid() and not sys.is_finalizing()
+
+
 class Kept:
     """A writer as C has it. Its service knows it until it is closed, also if nobody has its Writer any more."""
 
@@ -406,8 +423,7 @@ class Kept:
     def drop(self) -> None:
         """Nobody has its Writer any more: it is flushed, or the end of the service tries again."""
         self.is_dropped = True
-        # In the child of a fork, and at the end of the program, other threads may never give back what it waits for.
-        if self.is_open() and self._process == os.getpid() and not sys.is_finalizing():
+        if self.is_open() and is_whole(self._process):
             try:
                 self.close()
             except Refused:
@@ -426,7 +442,7 @@ class Kept:
             warnings.warn(f"{lost} likes of a writer that wasn't closed are lost: {why}", RuntimeWarning, stacklevel=3)
 
 
-class Writer:
+class Writer(Single):
     """Likes of a thread, which it keeps in rows and hands over as a whole. Calls by several threads wait for each
     other.
 
@@ -438,7 +454,8 @@ class Writer:
     the service, or lost with a RuntimeWarning.
     """
 
-    def __init__(self, kept: Kept) -> None:
+    def __init__(self, service: Likes, kept: Kept) -> None:
+        self._service: Optional[Likes] = service  # it doesn't end before its writers
         self._kept, self._library, self._lock = kept, kept.library, kept.lock
         self._at, self._ends = kept.at, kept.ends
 

@@ -3,6 +3,7 @@
 import threading
 import unittest
 from typing import Any, Callable, List
+from unittest import mock
 
 from likes import GLANCE, LIKE, LOOK, NO_HOT, Closed, Driver, End, Glimpsed, Refused, Seen, Status
 
@@ -61,6 +62,10 @@ class Core(unittest.TestCase):
         self.refused(Status.WRONG_RANGE, first.lasts, 1, 2)
         self.refused(Status.WRONG_RANGE, self.driver.snapshot, 1, 2)
         self.refused(Status.WRONG_RANGE, self.driver.last_counts, 3)
+        # Nor does a wrong length take the memory for it.
+        self.refused(Status.WRONG_RANGE, first.lasts, 0, 2**32 - 1)
+        self.refused(Status.WRONG_RANGE, self.driver.snapshot, 0, 2**32 - 1)
+        self.assertEqual(self.driver.split_pages(2**32 - 1), [0])
         self.refused(Status.UNKNOWN_END, self.driver.turn, 3)
         self.assertIsNone(self.driver.take_seat())
 
@@ -127,6 +132,19 @@ class Core(unittest.TestCase):
             self.assertRaises(Closed, call)
         self.assertRaises(Closed, self.driver.turn)
         self.assertRaises(Closed, first.like, 0, 0)
+
+    def test_dropped(self) -> None:
+        """What nobody has any more is freed, and a seat that somebody has stays."""
+        driver = Driver([10, 0], users=4, seats=1)
+        seat, library = driver.take_seat(), driver._library
+        assert seat
+        with mock.patch.object(library, "likes_driver_free", wraps=library.likes_driver_free) as free:
+            del driver
+            self.assertEqual((free.call_count, seat.like(3, 1)), (1, Status.LIKED))
+        with mock.patch.object(library, "likes_seat_free", wraps=library.likes_seat_free) as free:
+            del seat
+            self.assertEqual(free.call_count, 1)
+        self.assertRaises(Refused, Driver, [], users=4)
 
     def test_threads_at_one_seat(self) -> None:
         first = self.seats[0]

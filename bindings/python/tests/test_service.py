@@ -13,10 +13,13 @@ import time
 import unittest
 import warnings
 from contextlib import suppress
+from fractions import Fraction
+from pathlib import Path
 from typing import Any, Callable, Dict, List, Tuple
 from unittest import mock
 
-from likes import GLANCE, LIKE, LIKED, LOOK, NO_HOT, Closed, Likes, Moment, Refused, Seen, Status, Told, _pool, _service
+from likes import GLANCE, LIKE, LIKED, LOOK, NO_HOT, Closed, Driver, Likes, Moment, Refused, Seen, Status, Told
+from likes import _pool, _service
 
 from .numbers import OUTSIDE, WRONG
 
@@ -223,16 +226,18 @@ class Service(unittest.TestCase):
             path = os.path.join(folder, "likes.saved")
             with opened(users=3) as first:
                 first.like(2, 1)
-                first.save(path)
+                first.save(Path(path))
                 moment = first.snapshot()
-            with Likes.load(path) as same, Likes.load(path, users=4, pages=3, seats=2) as grown:
+            with Likes.load(Path(path)) as same, Likes.load(path, users=4, pages=3, seats=2) as grown:
                 self.assertEqual(same.snapshot(), moment)
                 self.assertEqual(grown.snapshot(), Moment([*moment.counts, 0], [*moment.lasts, None]))
             self.refused(Status.WRONG_LENGTH, Likes.load, path, 2)
             with open(path, "ab") as file:
                 file.write(b"more")
             self.refused(Status.WRONG_SIZE, Likes.load, path)
-            self.assertRaises(FileNotFoundError, Likes.load, path + "?")
+            with self.assertRaises(FileNotFoundError) as caught:
+                Likes.load(Path(path + "?"))
+            self.assertEqual(caught.exception.filename, path + "?")
             self.assertRaises(Closed, first.save, path)
             calls: List[Callable[[str], object]] = [Likes.load, first.save]
             for call in calls:
@@ -353,6 +358,24 @@ class Service(unittest.TestCase):
             self.assertEqual(pool.drop(), 0)
         self.assertEqual((wrong, sum(service.stop().counts)), ([], 6 + threads * each))
 
+    def test_numbers_of_other_types(self) -> None:
+        """A pool takes what a service takes, as numbers of arrays."""
+
+        class Number:
+            def __init__(self, value: int) -> None:
+                self._value = value
+
+            def __index__(self) -> int:
+                return self._value
+
+        page: Any = Number(1)
+        with opened(period=Fraction(1, 500)) as service, service.pool() as pool:
+            pool.like(page, page)
+            until = time.monotonic() + 10
+            while service.counts() != [5, 1] and time.monotonic() < until:
+                time.sleep(0.001)
+            self.assertEqual((service.counts(), pool.look(page, page)), ([5, 1], Seen(1, 1)))
+
     def test_pools_of_seats_that_leave(self) -> None:
         with opened(users=4) as service, service.pool() as pool:
             service.retire_seat(1)
@@ -465,6 +488,27 @@ class Service(unittest.TestCase):
             service.writer().like(4, 0)
             service.bring_back_seat(0)
         self.assertEqual(service.stop().counts, [7, 3])
+
+    def test_dropped_services(self) -> None:
+        """A service that nobody has any more is ended, with its thread, also one in a cycle with its writer or its pool. As
+        long as somebody has one of these, it goes on."""
+        threads = "/proc/self/task"
+        before = len(os.listdir(threads))
+        openings: List[Callable[[Likes], Any]] = [Likes.writer, Likes.pool]
+        for opening in openings:
+            kept = opening(opened(period=100))
+            kept.like(4, 1)
+            self.assertEqual(kept.look(4, 1), Seen(1, 1))
+            del kept
+            service: Any = opened()
+            service.retire_seat(0)
+            service.kept = opening(service)
+            service.kept.like(4, 0)
+            with self.assertWarnsRegex(RuntimeWarning, "^1 likes of a writer"):
+                del service
+                gc.collect()
+        while len(os.listdir(threads)) > before:
+            time.sleep(0.001)
 
     def test_lost_likes(self) -> None:
         """What a dropped writer or pool keeps for a seat that has left for good is told."""
@@ -730,6 +774,18 @@ class Refusals(unittest.TestCase):
             for other in (pickle.loads(pickle.dumps(error)), copy.copy(error)):
                 self.assertEqual((type(other), str(other)), (type(error), str(error)))
                 self.assertEqual(vars(other), vars(error))
+
+    def test_single(self) -> None:
+        """What C has once isn't copied, and goes on."""
+        driver = Driver([0], users=1)
+        copies: List[Callable[[Any], object]] = [copy.copy, copy.deepcopy, pickle.dumps]
+        with opened() as service, service.writer() as writer, service.pool() as pool:
+            for it in (service, writer, pool, driver, driver.take_seat()):
+                for make in copies:
+                    self.assertRaises(TypeError, make, it)
+            writer.like(4, 1)
+            pool.like(4, 1)
+        self.assertEqual((service.stop().counts, driver.turn()), ([5, 2], Status.GOES_ON))
 
 
 if __name__ == "__main__":
