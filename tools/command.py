@@ -152,6 +152,12 @@ def output(name):
             os.remove(part)
 
 
+def folder_of(text):
+    """The name of a folder, which no program takes for an option."""
+    name = os.path.normpath(text)
+    return f"./{name}" if name.startswith("-") else name
+
+
 @contextlib.contextmanager
 def new_folder(name):
     """A folder that gets its name once it is complete."""
