@@ -511,6 +511,8 @@ def statuses(text):
 def fields(text):
     """A type for argparse: names of fields in a JSON log."""
     found = dict(part.partition("=")[::2] for part in text.split(","))
+    if len(found) < len(text.split(",")):
+        raise argparse.ArgumentTypeError(f"{shown(text)} has a name twice")
     if not all(name in FIELDS and value for name, value in found.items()):
         raise argparse.ArgumentTypeError(f"{shown(text)} is not NAME=FIELD,.. with names of {', '.join(FIELDS)}")
     return found
