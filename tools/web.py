@@ -130,8 +130,10 @@ class Meanings(Cache):
                 self[request] = self.number_of((op, page))
             else:
                 self.empty.add(request)
-            if "user" in match.re.groupindex and (user := self.decoded(text, *match.span("user"))):
-                self.users[request] = user
+            if "user" in match.re.groupindex:
+                user = self.decoded(text, *match.span("user"))
+                if user not in NAMELESS:
+                    self.users[request] = user
         return self[request]
 
     def why_none(self, request):

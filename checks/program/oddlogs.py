@@ -451,6 +451,13 @@ CASES = {
         {"ann": "/a", "bob": "b"},
         [],
     ),
+    "no user in the request": (
+        {"a.log": "".join(line("1.1.1.1 - -", f"?user={user}&page=a") for user in ("-", "", "bob")) + line("x - ann", "?user=-&page=b")},
+        r"--combined --like 'POST /like/\?user=(?P<user>[^& ]*)&page=([^& ]+)'",
+        {"a": 3, "b": 1},
+        {"1.1.1.1": "a", "bob": "a", "ann": "b"},
+        [],
+    ),
     "no queries": (
         {"a.log": line("x - ann", "a?utm_source=1") + line("x - ann", "a%3Fb") + line("x - ann")},
         WEB.replace("[^? ]*", r"\S*") + " --no-query",
