@@ -95,6 +95,13 @@ class Parser(argparse.ArgumentParser):
             options["help"] = named(options["help"])
         return super().add_argument(*names, **options)
 
+    def parse_intermixed_args(self):
+        """The command line. What is behind -- is no option. It is named from this folder, since argparse would lose it."""
+        words = sys.argv[1:]
+        at = words.index("--") if "--" in words else len(words)
+        names = [f"./{name}" if name[:1] == "-" != name else name for name in words[at + 1 :]]
+        return super().parse_intermixed_args(words[:at] + names)
+
     def _print_message(self, message, file=None):
         if file is sys.stdout:
             put(message.splitlines(), file)
@@ -150,6 +157,12 @@ def output(name):
     finally:
         if not is_device and os.path.exists(part):
             os.remove(part)
+
+
+def folder_of(text):
+    """The name of a folder, which no program takes for an option."""
+    name = os.path.normpath(text)
+    return f"./{name}" if name.startswith("-") else name
 
 
 @contextlib.contextmanager

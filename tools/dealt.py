@@ -4,6 +4,7 @@ import array
 import collections
 import gc
 import hashlib
+import itertools
 import os
 import re
 
@@ -360,14 +361,13 @@ def judge_rest(words, parser):
 
 def earlier_pages(name):
     """The pages of a pages file or of a report, by name."""
-    found = rows.records(name)
-    header = ",".join(next(found, (1, []))[1])
-    found.close()
+    found = rows.records(name)  # once, since it may be a pipe
+    first = next(found, (1, []))
+    header = formats.REPORT if ",".join(first[1]) == formats.REPORT else formats.PAGES
+    found = (row for _, row in rows.lines_behind(itertools.chain([first], found), name, header))
     if header == formats.REPORT:
-        found = [(row[5], row[6]) for row in rows.rows_of(name, formats.REPORT) if row[0] == "page"]
-    else:
-        found = rows.rows_of(name, formats.PAGES)
+        found = (row[5:] for row in found if row[0] == "page")
     pages = {row[0]: Page(*row) for row in found}
     if not pages:
-        raise Fault(f"{name}: no page")
+        raise Fault(f"{rows.called(name)}: no page")
     return pages

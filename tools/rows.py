@@ -271,8 +271,12 @@ def lines_of(name, header):
 
 def lines_in(file, name, header):
     """The records of an open CSV file after its header, each with the line on which it begins."""
+    return lines_behind(records_in(file, name), name, header)
+
+
+def lines_behind(found, name, header):
+    """Those of the records of a file that are behind its header."""
     wanted = header.split(",")
-    found = records_in(file, name)
     line, first = next(found, (1, []))
     if first != wanted:
         raise fault(name, line, f"the header is not {header}: {shown(','.join(first))}")

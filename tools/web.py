@@ -31,18 +31,15 @@ HOST = r"(?:[^ :\n\0]+|\[[^] \n]+\]):[0-9]{1,5} (?!- )"
 ADDRESSES = r"([^ ,\n\0]+(?:, ?[^ ,\n\0]+)*)"
 
 # What is an address, and not a time, a level or another word of a line's front: of IPv4, of IPv6, or a host's name.
-ADDRESS = re.compile(
-    r"[0-9]{1,3}\.[0-9]{1,3}\.[0-9]{1,3}\.[0-9]{1,3}"
-    r"|\[?(?:[0-9a-fA-F:]*::[0-9a-fA-F:.]*|(?:[0-9a-fA-F]+:){6,7}[0-9a-fA-F.]+)(?:%[\w.-]+)?\]?"
-    r"|(?:[\w-]+\.)+[a-zA-Z][\w-]*\.?|localhost",
-    re.A,
-)
+IPV4, NAME = r"[0-9]{1,3}\.[0-9]{1,3}\.[0-9]{1,3}\.[0-9]{1,3}", r"(?:[\w-]+\.)+[a-zA-Z][\w-]*\.?|localhost"
+IPV6 = r"(?:[0-9a-fA-F:]*::[0-9a-fA-F:.]*|(?:[0-9a-fA-F]+:){6,7}[0-9a-fA-F.]+)(?:%[\w.-]+)?"
+ADDRESS = re.compile(rf"{IPV4}|\[?{IPV6}\]?|{NAME}", re.A)
 
 # What stands alone in the place of an address, such as its hash or a host's short name: a word, but no date.
 WORD = re.compile(r"(?![0-9]{4}-[0-9]{2}-[0-9]{2}\Z)[\w-]+", re.A)
 
 # An address with the port of a connection, which is none of the user's.
-PORTED = re.compile(r"([0-9.]+|\[[0-9a-fA-F:.%]+\]):[0-9]{1,5}")
+PORTED = re.compile(rf"({IPV4}|\[{IPV6}\]|{NAME}):[0-9]{{1,5}}", re.A)
 
 # A line of the combined or the common format from the time to the status: a request, and how it was answered. And what
 # follows up to the agent, if there is one.
@@ -133,8 +130,10 @@ class Meanings(Cache):
                 self[request] = self.number_of((op, page))
             else:
                 self.empty.add(request)
-            if "user" in match.re.groupindex and (user := self.decoded(text, *match.span("user"))):
-                self.users[request] = user
+            if "user" in match.re.groupindex:
+                user = self.decoded(text, *match.span("user"))
+                if user not in NAMELESS:
+                    self.users[request] = user
         return self[request]
 
     def why_none(self, request):
@@ -514,6 +513,8 @@ def statuses(text):
 def fields(text):
     """A type for argparse: names of fields in a JSON log."""
     found = dict(part.partition("=")[::2] for part in text.split(","))
+    if len(found) < len(text.split(",")):
+        raise argparse.ArgumentTypeError(f"{shown(text)} has a name twice")
     if not all(name in FIELDS and value for name, value in found.items()):
         raise argparse.ArgumentTypeError(f"{shown(text)} is not NAME=FIELD,.. with names of {', '.join(FIELDS)}")
     return found

@@ -89,6 +89,13 @@ CASES = {
         {"1.1.1.1": "/b", "2001:db8::7": "/a", "::1": "/a", "2001:db8::7:443": "/a"},
         [],
     ),
+    "ports of names and zones": (
+        {"a.log": "".join(line(f"{front} - -") for front in ("[fe80::1%eth0]:80", "h.org:8080", "x.org.:1, 1.1.1.1:2"))},
+        WEB,
+        {"/a": 3},
+        dict.fromkeys(("fe80::1%eth0", "h.org", "x.org."), "/a"),
+        [],
+    ),
     "nobody by other words": (
         {
             "a.log": line('1.1.1.1 - ""') + line("unknown, 1.1.1.2 - -") + line("-, 1.1.1.3 - -", "b")
@@ -442,6 +449,13 @@ CASES = {
         r"--combined --like 'POST /like/\?user=(?P<user>[^& ]+)&to=([^& ]+)'",
         {"/a": 1, "b": 1},
         {"ann": "/a", "bob": "b"},
+        [],
+    ),
+    "no user in the request": (
+        {"a.log": "".join(line("1.1.1.1 - -", f"?user={user}&page=a") for user in ("-", "", "bob")) + line("x - ann", "?user=-&page=b")},
+        r"--combined --like 'POST /like/\?user=(?P<user>[^& ]*)&page=([^& ]+)'",
+        {"a": 3, "b": 1},
+        {"1.1.1.1": "a", "bob": "a", "ann": "b"},
         [],
     ),
     "no queries": (
