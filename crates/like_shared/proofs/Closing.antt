@@ -5,7 +5,7 @@ use Rattle.std.proofs.lemmas.List.Elements.{All-cons, All-head, All-nil, All-tai
 use Rattle.std.proofs.lemmas.Slice.Zip.{AllZip-long, firsts-zip, seconds-zip}
 use Rattle.std.proofs.lemmas.List.{map-append}
 use Rattle.told_lock.specs.Deeds.{Leads, Named, deeds_in}
-use Rattle.told_lock.specs.Rights.{IsKeeper, first_of, told_of}
+use Rattle.told_lock.specs.Rights.{IsKeeper, first_of, seens_of, told_of}
 use Rattle.told_lock.specs.declared.keeper.Keeper.{Keeper}
 use Rattle.told_lock.specs.declared.lock.Lock.{Lock}
 use Rattle.like_live.specs.Driver.{DriverView}
@@ -17,20 +17,22 @@ use Rattle.like_shared.specs.declared.service.ServiceKeeper.{ServiceKeeper}
 use Rattle.like_shared.specs.declared.service.SharedService.{SharedService}
 use Rattle.like_shared.specs.Closed.{AreEndsOf, IsClosedShared, LeadsTo, driver_end}
 use Rattle.like_shared.specs.Deeds.{DriverDoes, SeatDoes}
-use Rattle.like_shared.specs.Shared.{AreBack, driver_told, first_driver, first_seats, seats_told}
+use Rattle.like_shared.specs.Shared.{AreBack, driver_seen, driver_told, first_driver, first_seats, seats_seen, seats_told}
 use Rattle.like_shared.specs.Strict.{SeatEnd, SharedServicesAreStrict, firsts, lasts}
 use Rattle.like_shared.proofs.Runs.{driver-runs, seat-runs}
 
 -- one seat more
-pub ends-more : (first last : List LiveView) (told : List (Named SeatDeed)) (x y : LiveView) (ds : Named SeatDeed)
-    → AreEndsOf first told last → Leads SeatDoes x ds y
-    → AreEndsOf (first ++ x ∷ []) (told ++ ds ∷ []) (last ++ y ∷ [])
-ends-more first last told x y ds are leads =
-    let e : SeatEnd = record { first = x; last = y; told = ds; leads = leads } in
+pub ends-more : (first last : List LiveView) (told : List (Named SeatDeed)) (seen : List (List (Named SeatDeed)))
+    (x y : LiveView) (ds : Named SeatDeed) (ss : List (Named SeatDeed))
+    → AreEndsOf first told seen last → Leads SeatDoes x ds ss y
+    → AreEndsOf (first ++ x ∷ []) (told ++ ds ∷ []) (seen ++ ss ∷ []) (last ++ y ∷ [])
+ends-more first last told seen x y ds ss are leads =
+    let e : SeatEnd = record { first = x; last = y; told = ds; seen = ss; leads = leads } in
     record {
       ends = are.ends ++ e ∷ [];
       firsts_are = map-append (λ (z : SeatEnd). z.first) are.ends (e ∷ []) ∙ ap (λ l. l ++ x ∷ []) are.firsts_are;
       told_are = map-append (λ (z : SeatEnd). z.told) are.ends (e ∷ []) ∙ ap (λ l. l ++ ds ∷ []) are.told_are;
+      seen_are = map-append (λ (z : SeatEnd). z.seen) are.ends (e ∷ []) ∙ ap (λ l. l ++ ss ∷ []) are.seen_are;
       lasts_are = map-append (λ (z : SeatEnd). z.last) are.ends (e ∷ []) ∙ ap (λ l. l ++ y ∷ []) are.lasts_are;
     }
 
@@ -41,8 +43,8 @@ same-ends (e ∷ es) = (seat-runs e.first e.last (deeds_in e.leads.order) e.lead
 
 -- once all passes are back, driver and seats are those to which its clients led
 pub leads-to : CallsKeepSeats → (s : SharedService) (k : ServiceKeeper) (driver : DriverView) (back : List LiveView)
-    → AreItsSeats (first_driver s) (first_seats s) → Leads DriverDoes (first_driver s) (driver_told k) driver
-    → AreEndsOf (first_seats s) (seats_told k) back → LeadsTo s k driver back
+    → AreItsSeats (first_driver s) (first_seats s) → Leads DriverDoes (first_driver s) (driver_told k) (driver_seen k) driver
+    → AreEndsOf (first_seats s) (seats_told k) (seats_seen k) back → LeadsTo s k driver back
 leads-to keep s k driver back whole leads are = record {
   driver_leads = leads;
   seats_lead = are;
@@ -85,18 +87,26 @@ first_at p = first_of p.0
 abbrev pub told_at : Kept → Named SeatDeed
 told_at p = told_of p.1
 
+abbrev pub seen_in : Kept → List (Named SeatDeed)
+seen_in p = seens_of p.1
+
 -- one seat more, with its lock and keeper
 pub ends-kept : (pairs : List Kept) (lock : Lock LiveView SeatDeed SeatDeeds) (keeper : Keeper LiveView SeatDeed)
-    (last : List LiveView) (y : LiveView) → AreEndsOf (map first_at pairs) (map told_at pairs) last
-    → Leads SeatDoes (first_of lock) (told_of keeper) y
+    (last : List LiveView) (y : LiveView) → AreEndsOf (map first_at pairs) (map told_at pairs) (map seen_in pairs) last
+    → Leads SeatDoes (first_of lock) (told_of keeper) (seens_of keeper) y
     → AreEndsOf (map first_at (pairs ++ (lock, keeper) ∷ [])) (map told_at (pairs ++ (lock, keeper) ∷ []))
-    (last ++ y ∷ [])
+    (map seen_in (pairs ++ (lock, keeper) ∷ [])) (last ++ y ∷ [])
 ends-kept pairs lock keeper last y are leads =
-    subst (λ l. AreEndsOf l (map told_at (pairs ++ (lock, keeper) ∷ [])) (last ++ y ∷ []))
+    let more : List Kept = pairs ++ (lock, keeper) ∷ [] in
+    subst (λ l. AreEndsOf l (map told_at more) (map seen_in more) (last ++ y ∷ []))
     (sym (map-append first_at pairs ((lock, keeper) ∷ [])))
-    (subst (λ l. AreEndsOf (map first_at pairs ++ first_of lock ∷ []) l (last ++ y ∷ []))
+    (subst (λ l. AreEndsOf (map first_at pairs ++ first_of lock ∷ []) l (map seen_in more) (last ++ y ∷ []))
     (sym (map-append told_at pairs ((lock, keeper) ∷ [])))
-    (ends-more (map first_at pairs) last (map told_at pairs) (first_of lock) y (told_of keeper) are leads))
+    (subst (λ l. AreEndsOf (map first_at pairs ++ first_of lock ∷ []) (map told_at pairs ++ told_of keeper ∷ []) l
+    (last ++ y ∷ []))
+    (sym (map-append seen_in pairs ((lock, keeper) ∷ [])))
+    (ends-more (map first_at pairs) last (map told_at pairs) (map seen_in pairs) (first_of lock) y (told_of keeper)
+    (seens_of keeper) are leads)))
 
 -- the pairs of all locks and keepers
 pub all-back : (locks : List (Lock LiveView SeatDeed SeatDeeds)) (keepers : List (Keeper LiveView SeatDeed))
@@ -109,7 +119,8 @@ all-back (l ∷ ls) (k ∷ ks) kept back =
 
 pub ends-whole : (locks : List (Lock LiveView SeatDeed SeatDeeds)) (keepers : List (Keeper LiveView SeatDeed))
     (pairs : List Kept) (last : List LiveView) → AllZip IsKeeper locks keepers → pairs ≡ zip locks keepers
-    → AreEndsOf (map first_at pairs) (map told_at pairs) last → AreEndsOf (map first_of locks) (map told_of keepers) last
+    → AreEndsOf (map first_at pairs) (map told_at pairs) (map seen_in pairs) last
+    → AreEndsOf (map first_of locks) (map told_of keepers) (map seens_of keepers) last
 ends-whole locks keepers pairs last kept is are =
     let long = AllZip-long IsKeeper locks keepers kept in
     let firsts-are : map first_at pairs ≡ map first_of locks =
@@ -118,7 +129,12 @@ ends-whole locks keepers pairs last kept is are =
     let told-are : map told_at pairs ≡ map told_of keepers =
     ap (map told_at) is ∙ map-map told_of (λ (p : Kept). p.1) (zip locks keepers)
     ∙ ap (map told_of) (seconds-zip locks keepers long) in
-    subst (λ l. AreEndsOf l (map told_of keepers) last) firsts-are (subst (λ l. AreEndsOf (map first_at pairs) l last) told-are are)
+    let seen-are : map seen_in pairs ≡ map seens_of keepers =
+    ap (map seen_in) is ∙ map-map seens_of (λ (p : Kept). p.1) (zip locks keepers)
+    ∙ ap (map seens_of) (seconds-zip locks keepers long) in
+    subst (λ l. AreEndsOf l (map told_of keepers) (map seens_of keepers) last) firsts-are
+    (subst (λ l. AreEndsOf (map first_at pairs) l (map seens_of keepers) last) told-are
+    (subst (λ l. AreEndsOf (map first_at pairs) (map told_at pairs) l last) seen-are are))
   where
     map-map : {A B C : Type 0} (f : B → C) (g : A → B) (xs : List A) → map (λ x. f (g x)) xs ≡ map f (map g xs)
     map-map f g [] = refl

@@ -1,6 +1,6 @@
 -- Deeds, one after the other, leave the same driver and the same seat.
 use Rattle.std.proofs.Common.{ℕ, ◌≤◌, List, [], ◌∷◌, length, sym, ap, subst}
-use Rattle.told_lock.specs.Deeds.{HasRun, IsReached, deeds_in}
+use Rattle.told_lock.specs.Deeds.{HasRun}
 use Rattle.like_core.specs.declared.opening.Opening.{Opening}
 use Rattle.like_live.specs.Driver.{DriverView, IsSameDriver}
 use Rattle.like_live.specs.LiveView.{IsSameSeat, LiveView}
@@ -19,8 +19,8 @@ seat-runs v w [] run = subst (λ u. IsSameSeat v u) (sym run) (same_seat v)
 seat-runs v w (d ∷ ds) run = same_seat_both v run.0 w run.1.1 (seat-runs run.0 w ds run.2)
 
 -- so a driver to which deeds have led has as many pages as at first
-pub pages-reached : (first v : DriverView) (name : ℕ) (log : List DriverDeed) (n : ℕ)
-    → IsReached DriverDoes first name log v → n ≤ pages_at first → n ≤ pages_at v
-pages-reached first v name log n reached less =
-    let same = driver-runs first v (deeds_in reached.order) reached.run in
+pub pages-reached : (first v : DriverView) (done : List DriverDeed) (n : ℕ) → HasRun DriverDoes first done v
+    → n ≤ pages_at first → n ≤ pages_at v
+pages-reached first v done n run less =
+    let same = driver-runs first v done run in
     subst (λ k. n ≤ k) (sym (ap (λ (z : Opening). length z.counts) same.opening)) less

@@ -91,7 +91,7 @@ tally-of : HistoriesAreCounted → LogsWeighAll SeatDoes → (e : SeatEnd) → I
 tally-of counted weigh e unused page =
     let h = history-of e in
     (counted h.first h.last h.told unused h.done).tallies page ∙ likes-map page (deeds_in e.leads.order)
-    ∙ weigh e.first e.last e.told (liked_by page) e.leads
+    ∙ weigh e.first e.last e.told e.seen (liked_by page) e.leads
 
 -- so are those of all seats
 tallies-of : HistoriesAreCounted → LogsWeighAll SeatDoes → (page : ℕ) (ends : List SeatEnd)

@@ -11,27 +11,29 @@ use Rattle.like_shared.specs.declared.service.NotClosed.TheVariants.{ClientOut, 
 use Rattle.like_shared.specs.declared.service.ServiceKeeper.{ServiceKeeper}
 use Rattle.like_shared.specs.declared.service.SharedService.{SharedService}
 use Rattle.like_shared.specs.Deeds.{DriverDoes}
-use Rattle.like_shared.specs.Shared.{AreBack, driver_told, first_driver, first_seats, seats_told}
+use Rattle.like_shared.specs.Shared.{AreBack, driver_seen, driver_told, first_driver, first_seats, seats_seen, seats_told}
 use Rattle.like_shared.specs.Strict.{DriverEnd, IsStrictlyShared, SeatEnd, firsts, lasts}
 
--- what clients told of seats leads from these to those
-pub record AreEndsOf (first : List LiveView) (told : List (Named SeatDeed)) (last : List LiveView) : Type 0 where
+-- what clients told of seats leads from these to those, in orders that continue what they have seen
+pub record AreEndsOf (first : List LiveView) (told : List (Named SeatDeed)) (seen : List (List (Named SeatDeed)))
+    (last : List LiveView) : Type 0 where
   pub ends : List SeatEnd
   pub firsts_are : firsts ends ≡ first
   pub told_are : map (λ e. e.told) ends ≡ told
+  pub seen_are : map (λ e. e.seen) ends ≡ seen
   pub lasts_are : lasts ends ≡ last
 
 -- what its clients told leads to this driver and to these seats, which are its own
 pub record LeadsTo (s : SharedService) (k : ServiceKeeper) (driver : DriverView) (seats : List LiveView) : Type 0 where
-  pub driver_leads : Leads DriverDoes (first_driver s) (driver_told k) driver
-  pub seats_lead : AreEndsOf (first_seats s) (seats_told k) seats
+  pub driver_leads : Leads DriverDoes (first_driver s) (driver_told k) (driver_seen k) driver
+  pub seats_lead : AreEndsOf (first_seats s) (seats_told k) (seats_seen k) seats
   pub whole : AreItsSeats driver seats
 
 -- the driver of a shared service, from its opening to what its clients told leads to
 abbrev pub driver_end : {s : SharedService} {k : ServiceKeeper} {driver : DriverView} {seats : List LiveView}
     → LeadsTo s k driver seats → DriverEnd
 driver_end {s} {k} {driver} it =
-    record { first = first_driver s; last = driver; told = driver_told k; leads = it.driver_leads }
+    record { first = first_driver s; last = driver; told = driver_told k; seen = driver_seen k; leads = it.driver_leads }
 
 -- a shared service is closed, with no client out and all seats gone: however it was opened, one thread could have done all
 -- that its clients told

@@ -43,9 +43,10 @@ IsHubNotClosed h (Open why) = (k : ServiceKeeper) × IsLastKeeper h k × IsNotCl
 -- a hub is closed with all cards back: its service is, by the keeper to which what the cards told leads
 pub record IsClosedWith (h : Hub) (told : Named DeskDeed) (counts : List ℕ) : Type 0 where
   pub keeper : ServiceKeeper
-  pub last : Leads DeskDoes (first_of h.desk) told keeper
+  pub seen : List (Named DeskDeed)
+  pub last : Leads DeskDoes (first_of h.desk) told seen keeper
   pub closed : IsClosedShared h.service keeper counts
 
 abbrev pub IsNotClosedWith : Hub → Named DeskDeed → NotClosed → Type 0
 IsNotClosedWith h told why =
-    (k : ServiceKeeper) × Leads DeskDoes (first_of h.desk) told k × IsNotClosed h.service k why
+    (k : ServiceKeeper) × (seen : _) × Leads DeskDoes (first_of h.desk) told seen k × IsNotClosed h.service k why

@@ -20,19 +20,22 @@ use Rattle.like_shared.specs.declared.deed.SeatDeed.{SeatDeed}
 use Rattle.like_shared.specs.declared.deed.SeatDeed.TheVariants.{Last, Lasts}
 use Rattle.like_shared.specs.Deeds.{DriverDoes, SeatDoes, calls_of, liked_by}
 
--- a seat of a shared service, from its opening to its end: what all clients told of it led from the one to the other
+-- a seat of a shared service, from its opening to its end: what all clients told of it led from the one to the other, in
+-- an order that continues what each of them has seen
 pub record SeatEnd : Type 0 where
   pub first : LiveView
   pub last : LiveView
   pub told : Named SeatDeed
-  pub leads : Leads SeatDoes first told last
+  pub seen : List (Named SeatDeed)
+  pub leads : Leads SeatDoes first told seen last
 
--- the driver of a shared service, from its opening to its end: what all clients told of it led from one to the other
+-- the driver of a shared service, in the same way
 pub record DriverEnd : Type 0 where
   pub first : DriverView
   pub last : DriverView
   pub told : Named DriverDeed
-  pub leads : Leads DriverDoes first told last
+  pub seen : List (Named DriverDeed)
+  pub leads : Leads DriverDoes first told seen last
 
 -- the seats at first and at last
 abbrev pub firsts : List SeatEnd → List LiveView

@@ -1,6 +1,7 @@
 //! A call of a driver behind its lock, if no other thread has it.
 ghost use Rattle.std.specs.Prelude.{◌≡◌, ◌≤◌, ◌++◌, ℕ, List, [], ◌∷◌, MatchResult, length};
-ghost use Rattle.told_lock.specs.Rights.{IsHolding, IsIdle, first_of, log_of, name_of};
+ghost use Rattle.told_lock.specs.Deeds.{named};
+ghost use Rattle.told_lock.specs.Rights.{IsHolding, IsIdle, SeesNext, first_of, log_of, name_of, seen_of};
 ghost use Rattle.like_shared.specs.declared.deed.DriverDeed.{DriverDeed};
 ghost use Rattle.like_shared.specs.Deeds.{DriverDoes, pages_at};
 
@@ -55,6 +56,8 @@ pub fn try_drive<Q: DriverCall>(
     ensures log { MatchResult result
         (λ answer. log_of pass.new ≡ log_of pass.old ++ Q.deed call.now answer places.new ∷ [])
         (λ _. log_of pass.new ≡ log_of pass.old) }
+    ensures seen { MatchResult result (λ answer. SeesNext pass.old (Q.deed call.now answer places.new ∷ []) pass.new)
+        (λ _. SeesNext pass.old [] pass.new) }
     ensures places { MatchResult result (λ answer. Q.writes call.now answer places.old places.new)
         (λ _. places.new ≡ places.old) }
 {
@@ -76,6 +79,7 @@ fn make_at<Q: DriverCall>(
     requires { (x : _) × IsHolding lock.now pass.old x x × (Q.reach call.now (length places.old) ≤ pages_at x) }
     ensures name { name_of pass.new ≡ name_of pass.old }
     ensures log { log_of pass.new ≡ log_of pass.old }
+    ensures seen { seen_of pass.new ≡ seen_of pass.old }
     ensures made { (x : _) × (y : _) × IsHolding lock.now pass.new x y
         × DriverDoes x (Q.deed call.now result places.new) y }
     ensures writes { Q.writes call.now result places.old places.new }
@@ -97,6 +101,8 @@ fn tell<Q: DriverCall, J: Done<DriverDeed>>(
     ensures idle { IsIdle lock.now pass.new }
     ensures name { name_of pass.new ≡ name_of pass.old }
     ensures log { log_of pass.new ≡ log_of pass.old ++ Q.deed _call.now _answer.now _places.now ∷ [] }
+    ensures seen { seen_of pass.new
+        ≡ seen_of pass.old ++ named (name_of pass.old) (Q.deed _call.now _answer.now _places.now ∷ []) }
 {
     lock.give_back_after::<J>(pass);
 }

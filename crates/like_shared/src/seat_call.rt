@@ -1,6 +1,7 @@
 //! A call of a seat behind its lock, if no other thread has it.
 ghost use Rattle.std.specs.Prelude.{◌≡◌, ◌++◌, [], ◌∷◌, IfErr, IsFalse, MatchResult};
-ghost use Rattle.told_lock.specs.Rights.{IsHolding, IsIdle, log_of, name_of};
+ghost use Rattle.told_lock.specs.Deeds.{named};
+ghost use Rattle.told_lock.specs.Rights.{IsHolding, IsIdle, SeesNext, log_of, name_of, seen_of};
 ghost use Rattle.like_shared.specs.declared.deed.SeatDeed.{SeatDeed};
 ghost use Rattle.like_shared.specs.Deeds.{SeatDoes};
 ghost use Rattle.like_shared.specs.Passes.{IsReady, log_at};
@@ -55,6 +56,8 @@ pub fn try_call<Q: SeatCall>(
     ensures name { name_of pass.new.pass ≡ name_of pass.old.pass }
     ensures log { MatchResult result (λ answer. log_at pass.new ≡ log_at pass.old ++ Q.deed call.now answer ∷ [])
         (λ _. log_at pass.new ≡ log_at pass.old) }
+    ensures seen { MatchResult result (λ answer. SeesNext pass.old.pass (Q.deed call.now answer ∷ []) pass.new.pass)
+        (λ _. SeesNext pass.old.pass [] pass.new.pass) }
     ensures free { IfErr result (λ _. IsFalse pass.old.is_held) }
 {
     if pass.is_held {
@@ -71,6 +74,8 @@ fn call_free<Q: SeatCall>(lock: &SeatLock, pass: &mut FreePass, call: &Q) -> Res
     ensures name { name_of pass.new ≡ name_of pass.old }
     ensures log { MatchResult result (λ answer. log_of pass.new ≡ log_of pass.old ++ Q.deed call.now answer ∷ [])
         (λ _. log_of pass.new ≡ log_of pass.old) }
+    ensures seen { MatchResult result (λ answer. SeesNext pass.old (Q.deed call.now answer ∷ []) pass.new)
+        (λ _. SeesNext pass.old [] pass.new) }
 {
     if !lock.try_take(pass) {
         return Err(Busy);
@@ -88,6 +93,7 @@ fn call_held<Q: SeatCall>(lock: &SeatLock, pass: &mut FreePass, call: &Q) -> Q::
     ensures holding { (x : _) × IsHolding lock.now pass.new x x }
     ensures name { name_of pass.new ≡ name_of pass.old }
     ensures log { log_of pass.new ≡ log_of pass.old ++ Q.deed call.now result ∷ [] }
+    ensures seen { SeesNext pass.old (Q.deed call.now result ∷ []) pass.new }
 {
     let answer = make_at(lock, pass, call);
     note::<Q, Brand>(lock, pass, call, &answer);
@@ -100,6 +106,7 @@ fn make_at<Q: SeatCall>(lock: &SeatLock, pass: &mut FreePass, call: &Q) -> Q::An
     requires { (x : _) × IsHolding lock.now pass.old x x }
     ensures name { name_of pass.new ≡ name_of pass.old }
     ensures log { log_of pass.new ≡ log_of pass.old }
+    ensures seen { seen_of pass.new ≡ seen_of pass.old }
     ensures made { (x : _) × (y : _) × IsHolding lock.now pass.new x y × SeatDoes x (Q.deed call.now result) y }
 {
     call.make(pass.value_mut(lock))
@@ -119,6 +126,7 @@ fn tell<Q: SeatCall, J: Done<SeatDeed>>(
     ensures idle { IsIdle lock.now pass.new }
     ensures name { name_of pass.new ≡ name_of pass.old }
     ensures log { log_of pass.new ≡ log_of pass.old ++ Q.deed _call.now _answer.now ∷ [] }
+    ensures seen { seen_of pass.new ≡ seen_of pass.old ++ named (name_of pass.old) (Q.deed _call.now _answer.now ∷ []) }
 {
     lock.give_back_after::<J>(pass);
 }
@@ -137,6 +145,7 @@ fn note<Q: SeatCall, J: Done<SeatDeed>>(
     ensures holding { (x : _) × IsHolding lock.now pass.new x x }
     ensures name { name_of pass.new ≡ name_of pass.old }
     ensures log { log_of pass.new ≡ log_of pass.old ++ Q.deed _call.now _answer.now ∷ [] }
+    ensures seen { seen_of pass.new ≡ seen_of pass.old ++ named (name_of pass.old) (Q.deed _call.now _answer.now ∷ []) }
 {
     lock.note_after::<J>(pass);
 }

@@ -1,7 +1,8 @@
 //! A seat is locked and unlocked by a thread.
 ghost use Rattle.std.specs.Prelude.{◌≡◌, false, true, IfErr, IsFalse, MatchResult};
-ghost use Rattle.told_lock.specs.Rights.{IsHolding, IsIdle, log_of, name_of};
-ghost use Rattle.like_shared.specs.Passes.{IsReady, log_at};
+ghost use Rattle.told_lock.specs.Deeds.{Continues};
+ghost use Rattle.told_lock.specs.Rights.{IsHolding, IsIdle, log_of, name_of, seen_of};
+ghost use Rattle.like_shared.specs.Passes.{IsReady, log_at, seen_at};
 
 use crate::deed::NoDeed;
 use crate::seat_call::{Busy, FreePass, SeatLock, SeatPass};
@@ -14,6 +15,7 @@ pub fn try_lock(lock: &SeatLock, pass: &mut SeatPass) -> Result<(), Busy>
     ensures free { IfErr result (λ _. IsFalse pass.old.is_held) }
     ensures name { name_of pass.new.pass ≡ name_of pass.old.pass }
     ensures log { log_at pass.new ≡ log_at pass.old }
+    ensures seen { Continues (seen_at pass.old) (seen_at pass.new) }
 {
     if pass.is_held {
         return Ok(());
@@ -32,6 +34,7 @@ pub fn unlock(lock: &SeatLock, pass: &mut SeatPass)
     ensures held { pass.new.is_held ≡ false }
     ensures name { name_of pass.new.pass ≡ name_of pass.old.pass }
     ensures log { log_at pass.new ≡ log_at pass.old }
+    ensures seen { seen_at pass.new ≡ seen_at pass.old }
 {
     if !pass.is_held {
         return;
@@ -46,6 +49,7 @@ pub(crate) fn free(lock: &SeatLock, pass: SeatPass) -> FreePass
     ensures idle { IsIdle lock.now result }
     ensures name { name_of result ≡ name_of pass.pass }
     ensures log { log_of result ≡ log_at pass }
+    ensures seen { seen_of result ≡ seen_at pass }
 {
     let mut pass = pass;
     unlock(lock, &mut pass);
@@ -59,6 +63,7 @@ fn give_back(lock: &SeatLock, pass: &mut FreePass)
     ensures idle { IsIdle lock.now pass.new }
     ensures name { name_of pass.new ≡ name_of pass.old }
     ensures log { log_of pass.new ≡ log_of pass.old }
+    ensures seen { seen_of pass.new ≡ seen_of pass.old }
 {
     lock.give_back_after::<NoDeed>(pass);
 }

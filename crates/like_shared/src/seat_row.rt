@@ -1,7 +1,7 @@
 //! Calls of a seat that are made under one taking of its lock.
-ghost use Rattle.std.specs.Prelude.{◌≡◌, ◌++◌, IfErr, IsFalse, List, MatchResult};
-ghost use Rattle.told_lock.specs.Deeds.{HasRun};
-ghost use Rattle.told_lock.specs.Rights.{IsHolding, IsIdle, log_of, name_of};
+ghost use Rattle.std.specs.Prelude.{◌≡◌, ◌++◌, [], IfErr, IsFalse, List, MatchResult};
+ghost use Rattle.told_lock.specs.Deeds.{HasRun, named};
+ghost use Rattle.told_lock.specs.Rights.{IsHolding, IsIdle, SeesNext, log_of, name_of, seen_of};
 ghost use Rattle.like_shared.specs.declared.deed.SeatDeed.{SeatDeed};
 ghost use Rattle.like_shared.specs.Deeds.{SeatDoes};
 ghost use Rattle.like_shared.specs.Passes.{IsReady, log_at};
@@ -48,6 +48,8 @@ pub fn try_row<Q: SeatRow>(
     ensures log { MatchResult result
         (λ answer. log_at pass.new ≡ log_at pass.old ++ Q.deeds row.now answer places.new)
         (λ _. log_at pass.new ≡ log_at pass.old) }
+    ensures seen { MatchResult result (λ answer. SeesNext pass.old.pass (Q.deeds row.now answer places.new) pass.new.pass)
+        (λ _. SeesNext pass.old.pass [] pass.new.pass) }
     ensures free { IfErr result (λ _. IsFalse pass.old.is_held) }
     ensures places { MatchResult result (λ answer. Q.writes row.now answer places.old places.new)
         (λ _. places.new ≡ places.old) }
@@ -71,6 +73,8 @@ fn row_free<Q: SeatRow>(
     ensures log { MatchResult result
         (λ answer. log_of pass.new ≡ log_of pass.old ++ Q.deeds row.now answer places.new)
         (λ _. log_of pass.new ≡ log_of pass.old) }
+    ensures seen { MatchResult result (λ answer. SeesNext pass.old (Q.deeds row.now answer places.new) pass.new)
+        (λ _. SeesNext pass.old [] pass.new) }
     ensures places { MatchResult result (λ answer. Q.writes row.now answer places.old places.new)
         (λ _. places.new ≡ places.old) }
 {
@@ -93,6 +97,7 @@ fn row_held<Q: SeatRow>(
     ensures holding { (x : _) × IsHolding lock.now pass.new x x }
     ensures name { name_of pass.new ≡ name_of pass.old }
     ensures log { log_of pass.new ≡ log_of pass.old ++ Q.deeds row.now result places.new }
+    ensures seen { SeesNext pass.old (Q.deeds row.now result places.new) pass.new }
     ensures places { Q.writes row.now result places.old places.new }
 {
     let answer = make_at(lock, pass, row, places);
@@ -110,6 +115,7 @@ fn make_at<Q: SeatRow>(
     requires { (x : _) × IsHolding lock.now pass.old x x }
     ensures name { name_of pass.new ≡ name_of pass.old }
     ensures log { log_of pass.new ≡ log_of pass.old }
+    ensures seen { seen_of pass.new ≡ seen_of pass.old }
     ensures made { (x : _) × (y : _) × IsHolding lock.now pass.new x y
         × HasRun SeatDoes x (Q.deeds row.now result places.new) y }
     ensures writes { Q.writes row.now result places.old places.new }
@@ -131,6 +137,8 @@ fn tell<Q: SeatRow, J: Done<SeatDeed>>(
     ensures idle { IsIdle lock.now pass.new }
     ensures name { name_of pass.new ≡ name_of pass.old }
     ensures log { log_of pass.new ≡ log_of pass.old ++ Q.deeds _row.now _answer.now _places.now }
+    ensures seen { seen_of pass.new
+        ≡ seen_of pass.old ++ named (name_of pass.old) (Q.deeds _row.now _answer.now _places.now) }
 {
     lock.give_back_after::<J>(pass);
 }
@@ -149,6 +157,8 @@ fn note<Q: SeatRow, J: Done<SeatDeed>>(
     ensures holding { (x : _) × IsHolding lock.now pass.new x x }
     ensures name { name_of pass.new ≡ name_of pass.old }
     ensures log { log_of pass.new ≡ log_of pass.old ++ Q.deeds _row.now _answer.now _places.now }
+    ensures seen { seen_of pass.new
+        ≡ seen_of pass.old ++ named (name_of pass.old) (Q.deeds _row.now _answer.now _places.now) }
 {
     lock.note_after::<J>(pass);
 }

@@ -15,10 +15,10 @@ added x y (c ∷ cs) run =
     let all = sum_by-cons (λ (n : ℕ). n) c cs in omega (arith, rest, one, all)
 
 -- the number at last is the first one and all that the passes told
-pub last-is : LogsWeighAll Added → (first last : ℕ) (told : Named ℕ) → Leads Added first told last
+pub last-is : LogsWeighAll Added → (first last : ℕ) (told : Named ℕ) (seen : List (Named ℕ)) → Leads Added first told seen last
     → last ≡ first + sum (deeds_in told)
-last-is law first last told leads =
-    let weight = law first last told (λ x. x) leads in
+last-is law first last told seen leads =
+    let weight = law first last told seen (λ x. x) leads in
     let sums = added first last (deeds_in leads.order) leads.run in omega (arith, weight, sums)
 
 -- what two logs weigh

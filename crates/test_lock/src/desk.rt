@@ -53,7 +53,7 @@ fn leave(lock: &Sum, desk: &Desk, card: &mut Card, pass: Pass<u64, u64>) -> Opti
 // The number, if all passes are back.
 fn close(lock: Sum, desk: Desk) -> Option<u64>
     requires { IsKeeper lock (first_of desk) }
-    ensures { IfSome result (λ value. (told : _) × Leads Added (first_of lock) told value) }
+    ensures { IfSome result (λ value. (told : _) × (seen : _) × Leads Added (first_of lock) told seen value) }
 {
     let Ok(keeper) = desk.into_inner() else {
         return None;
@@ -66,7 +66,7 @@ fn close(lock: Sum, desk: Desk) -> Option<u64>
 
 // Two passes add a number each and are given back at the desk. The number, if all went well.
 fn added_at_desk(alloc: Global, first: u64, one: u64, two: u64) -> Result<Option<u64>, AllocError>
-    ensures { IfOk result (λ found. IfSome found (λ value. (told : _) × Leads Added first told value)) }
+    ensures { IfOk result (λ found. IfSome found (λ value. (told : _) × (seen : _) × Leads Added first told seen value)) }
 {
     let (lock, mut keeper) = Sum::new(alloc, first)?;
     let a = lock.new_pass(&mut keeper);

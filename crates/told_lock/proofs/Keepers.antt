@@ -4,7 +4,7 @@ use Rattle.told_lock.specs.declared.keeper.Keeper.{Keeper}
 use Rattle.told_lock.specs.declared.known.Known.TheVariants.{Keeper as Keeps}
 use Rattle.told_lock.specs.declared.lock.Lock.{Lock}
 use Rattle.told_lock.specs.Deeds.{HasRun}
-use Rattle.told_lock.specs.Rights.{IsKeeper, first_of, made_of, told_of}
+use Rattle.told_lock.specs.Rights.{IsKeeper, first_of, made_of, seens_of, told_of}
 
 -- before and after, it is the keeper of one lock
 abbrev pub Stays : {T C E : Type 0} (D : Type 0) → Keeper T C → E → Keeper T C → Type 0
@@ -18,7 +18,7 @@ module _ {T C D : Type 0} where
       let first : first_of other ≡ first_of lock = cc (sym (ap (λ m. m.0) that.keeping) ∙ ap (λ m. m.0) this.keeping) in
       record {
         here = after.here ∙ sym that.here ∙ this.here;
-        keeping = after.keeping ∙ (λ i. (Keeps (first i) (made_of l) l.out (told_of l), []));
+        keeping = after.keeping ∙ (λ i. (Keeps (first i) (made_of l) l.out (told_of l) (seens_of l), []));
       }
 
   -- whatever was done at the desk, it is still the lock's

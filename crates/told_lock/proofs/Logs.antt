@@ -1,9 +1,9 @@
 -- Logs of passes, added to the deeds so far.
-use Rattle.std.proofs.Common.{◌≡◌, ◌≢◌, ◌==◌, ℕ, Bool, cond, List, [], ◌∷◌, ◌++◌, refl, sym, ap, ◌∙◌, subst, append-nil, eq-eqb, ne_eqb}
+use Rattle.std.proofs.Common.{◌≡◌, ◌≢◌, ◌==◌, ℕ, Bool, cond, List, [], ◌∷◌, ◌++◌, refl, sym, ap, ◌∙◌, subst, append-nil, append_assoc, eq-eqb, ne_eqb}
 use Rattle.std.specs.Prelude.{filter}
 use Rattle.std.proofs.lemmas.List.{map-append}
 use Rattle.std.proofs.lemmas.List.Elements.{filter-append}
-use Rattle.told_lock.specs.Deeds.{HasRun, Named, deeds_by, deeds_in, named}
+use Rattle.told_lock.specs.Deeds.{Continues, ContinuesWithout, HasRun, Named, deeds_by, deeds_in, named}
 
 module _ {C : Type 0} (n : ℕ) where
   -- the deeds of one pass in two lists, one after the other
@@ -43,6 +43,29 @@ module _ {C : Type 0} (n : ℕ) where
   other-more es m cs other =
       by-append es (named m cs) ∙ ap (λ (l : List C). deeds_by n es ++ l) (by-other m cs other)
       ∙ append-nil (deeds_by n es)
+
+  -- an order without deeds of this pass behind what it has seen has no others of its
+  pub same-without : (xs ys : Named C) → ContinuesWithout n xs ys → deeds_by n ys ≡ deeds_by n xs
+  same-without xs ys on =
+      ap (deeds_by n) on.1 ∙ by-append xs on.0 ∙ ap (λ (l : List C). deeds_by n xs ++ l) on.2
+      ∙ append-nil (deeds_by n xs)
+
+  -- an order continues itself
+  pub none-behind : (xs ys : Named C) → ys ≡ xs → ContinuesWithout n xs ys
+  none-behind xs ys same = ([], same ∙ sym (append-nil xs), refl)
+
+  -- and one continues another that continues a third
+  pub on-without : (xs ys zs : Named C) → ContinuesWithout n xs ys → ContinuesWithout n ys zs → ContinuesWithout n xs zs
+  on-without xs ys zs on more = (
+    on.0 ++ more.0,
+    more.1 ∙ ap (λ (l : Named C). l ++ more.0) on.1 ∙ append_assoc xs on.0 more.0,
+    by-append on.0 more.0 ∙ (λ i. on.2 i ++ more.2 i),
+  )
+
+-- one order continues another that continues a third
+pub on-more : {C : Type 0} (xs ys zs : Named C) → Continues xs ys → Continues ys zs → Continues xs zs
+on-more {C} xs ys zs on more =
+    (on.0 ++ more.0, more.1 ∙ ap (λ (l : Named C). l ++ more.0) on.1 ∙ append_assoc xs on.0 more.0)
 
 -- the deeds of a log, without the name
 unnamed : {C : Type 0} (n : ℕ) (cs : List C) → deeds_in (named n cs) ≡ cs

@@ -9,6 +9,7 @@ use lib.ListN.{get_elem?}
 use native.Mathlib.Decide.{dec_le}
 use Rattle.told_lock.specs.declared.known.Known.{Known}
 use Rattle.told_lock.specs.declared.known.Known.TheVariants.{Pass}
+use Rattle.told_lock.specs.Deeds.{Named}
 use Rattle.told_lock.specs.Rule.{outs, taken_by, view_at}
 
 module _ {A : Type 0} where
@@ -82,13 +83,13 @@ pub holder-not : {T : Type 0} (holder name : ℕ) (now : T) → None ≡ taken_b
 holder-not holder name now is = λ same. cc (is ∙ taken-some holder name now same)
 
 -- if no pass is out, no view is a pass's, but for passes that are not made yet
-pub quiet : {T C : Type 0} (views : List (Known T C)) (i : ℕ) (first : T) (name : ℕ) (f : T) (n : ℕ) (log : List C)
+pub quiet : {T C : Type 0} (views : List (Known T C)) (i : ℕ) (first : T) (name : ℕ) (f : T) (n : ℕ) (seen : Named C)
     (taken : Option T)
-    → sum_by outs views ≡ 0 → get_or views i (Pass first name [] None) ≡ Pass f n log taken
-    → (log ≡ []) × (taken ≡ None)
-quiet [] i first name f n log taken none is = (cc (sym is), cc (sym is))
-quiet (v ∷ views) zero first name f n log taken none is =
+    → sum_by outs views ≡ 0 → get_or views i (Pass first name [] None) ≡ Pass f n seen taken
+    → (seen ≡ []) × (taken ≡ None)
+quiet [] i first name f n seen taken none is = (cc (sym is), cc (sym is))
+quiet (v ∷ views) zero first name f n seen taken none is =
     let one : outs v ≡ 1 = ap outs is in let all = sum_by-cons outs v views in absurd (omega (arith, none, one, all))
-quiet (v ∷ views) (suc i) first name f n log taken none is =
+quiet (v ∷ views) (suc i) first name f n seen taken none is =
     let all = sum_by-cons outs v views in
-    quiet views i first name f n log taken (omega (arith, none, all)) is
+    quiet views i first name f n seen taken (omega (arith, none, all)) is

@@ -1,5 +1,5 @@
 ghost use Rattle.std.specs.Prelude.{List, ◌≡◌, ◌+◌, ◌-◌, ◌<◌, ◌^◌, ◌++◌, [], ◌∷◌, IfOk, MatchBool};
-ghost use Rattle.told_lock.specs.Deeds.{HasRun, IsReached, Leads, named};
+ghost use Rattle.told_lock.specs.Deeds.{Continues, HasRun, Leads, deeds_in, named};
 
 use crate::deeds::{Deeds, Done};
 use crate::keeper::Keeper;
@@ -25,7 +25,7 @@ pub struct Lock<T, C, D: Deeds<T, C>> {
 }
 
 impl<T, C, D: Deeds<T, C>> Lock<T, C, D> {
-    ghost use Rattle.told_lock.specs.Rights.{IsHolding, IsIdle, IsKeeper, first_of, log_of, made_of, name_of, told_of};
+    ghost use Rattle.told_lock.specs.Rights.{IsHolding, IsIdle, IsKeeper, first_of, log_of, made_of, name_of, seen_of, seens_of, told_of};
 
     /// A lock of this value, with the keeper of its passes.
     pub fn new(alloc: Global, value: T) -> Result<(Lock<T, C, D>, Keeper<T, C>), AllocError>
@@ -36,6 +36,7 @@ impl<T, C, D: Deeds<T, C>> Lock<T, C, D> {
         ensures made { IfOk result (λ r. made_of r.1 ≡ 0) }
         ensures out { IfOk result (λ r. r.1.out ≡ 0) }
         ensures told { IfOk result (λ r. told_of r.1 ≡ []) }
+        ensures seens { IfOk result (λ r. seens_of r.1 ≡ []) }
     {
         let first = Snapshot::of(&value);
         let mut slots = Vec::with_capacity(alloc, 1)?;
@@ -54,8 +55,10 @@ impl<T, C, D: Deeds<T, C>> Lock<T, C, D> {
         ensures made { made_of keeper.new ≡ made_of keeper.old + 1 }
         ensures out { keeper.new.out ≡ keeper.old.out + 1 }
         ensures told { told_of keeper.new ≡ told_of keeper.old }
+        ensures seens { seens_of keeper.new ≡ seens_of keeper.old }
         ensures idle { IsIdle self.now result }
         ensures name { name_of result ≡ made_of keeper.new }
+        ensures seen { seen_of result ≡ [] }
         ensures log { log_of result ≡ [] }
     {
         let seat = self.table.shared.split_seat::<Making>(&mut keeper.seat);
@@ -69,8 +72,9 @@ impl<T, C, D: Deeds<T, C>> Lock<T, C, D> {
         requires { IsIdle self.now pass.old }
         ensures name { name_of pass.new ≡ name_of pass.old }
         ensures log { log_of pass.new ≡ log_of pass.old }
+        ensures seen { Continues (seen_of pass.old) (seen_of pass.new) }
         ensures taken { MatchBool result ((x : T) × IsHolding self.now pass.new x x
-            × IsReached D.does (first_of self.now) (name_of pass.old) (log_of pass.old) x)
+            × HasRun D.does (first_of self.now) (deeds_in (seen_of pass.new)) x)
             (IsIdle self.now pass.new) }
     {
         self.table
@@ -85,6 +89,7 @@ impl<T, C, D: Deeds<T, C>> Lock<T, C, D> {
         requires { (x : T) × (y : T) × IsHolding self.now pass.old x y × HasRun D.does x J.done y }
         ensures idle { IsIdle self.now pass.new }
         ensures name { name_of pass.new ≡ name_of pass.old }
+        ensures seen { seen_of pass.new ≡ seen_of pass.old ++ named (name_of pass.old) J.done }
         ensures log { log_of pass.new ≡ log_of pass.old ++ J.done }
     {
         self.table
@@ -98,6 +103,7 @@ impl<T, C, D: Deeds<T, C>> Lock<T, C, D> {
         requires { (x : T) × (y : T) × IsHolding self.now pass.old x y × D.does x deed.now y }
         ensures idle { IsIdle self.now pass.new }
         ensures name { name_of pass.new ≡ name_of pass.old }
+        ensures seen { seen_of pass.new ≡ seen_of pass.old ++ named (name_of pass.old) (deed.now ∷ []) }
         ensures log { log_of pass.new ≡ log_of pass.old ++ deed.now ∷ [] }
     {
         self.give_back_as::<Brand>(pass, deed);
@@ -110,6 +116,7 @@ impl<T, C, D: Deeds<T, C>> Lock<T, C, D> {
         requires holding { (x : T) × (y : T) × IsHolding self.now pass.old x y × D.does x _deed.now y }
         ensures idle { IsIdle self.now pass.new }
         ensures name { name_of pass.new ≡ name_of pass.old }
+        ensures seen { seen_of pass.new ≡ seen_of pass.old ++ named (name_of pass.old) (_deed.now ∷ []) }
         ensures log { log_of pass.new ≡ log_of pass.old ++ _deed.now ∷ [] }
     {
         self.give_back_after::<J>(pass);
@@ -121,6 +128,7 @@ impl<T, C, D: Deeds<T, C>> Lock<T, C, D> {
         requires { (x : T) × (y : T) × IsHolding self.now pass.old x y × HasRun D.does x J.done y }
         ensures holding { (x : T) × (y : T) × IsHolding self.now pass.old x y × IsHolding self.now pass.new y y }
         ensures name { name_of pass.new ≡ name_of pass.old }
+        ensures seen { seen_of pass.new ≡ seen_of pass.old ++ named (name_of pass.old) J.done }
         ensures log { log_of pass.new ≡ log_of pass.old ++ J.done }
     {
         self.table
@@ -134,6 +142,7 @@ impl<T, C, D: Deeds<T, C>> Lock<T, C, D> {
         requires { (x : T) × (y : T) × IsHolding self.now pass.old x y × D.does x deed.now y }
         ensures holding { (x : T) × (y : T) × IsHolding self.now pass.old x y × IsHolding self.now pass.new y y }
         ensures name { name_of pass.new ≡ name_of pass.old }
+        ensures seen { seen_of pass.new ≡ seen_of pass.old ++ named (name_of pass.old) (deed.now ∷ []) }
         ensures log { log_of pass.new ≡ log_of pass.old ++ deed.now ∷ [] }
     {
         self.note_as::<Brand>(pass, deed);
@@ -146,6 +155,7 @@ impl<T, C, D: Deeds<T, C>> Lock<T, C, D> {
         requires holding { (x : T) × (y : T) × IsHolding self.now pass.old x y × D.does x _deed.now y }
         ensures holding { (x : T) × (y : T) × IsHolding self.now pass.old x y × IsHolding self.now pass.new y y }
         ensures name { name_of pass.new ≡ name_of pass.old }
+        ensures seen { seen_of pass.new ≡ seen_of pass.old ++ named (name_of pass.old) (_deed.now ∷ []) }
         ensures log { log_of pass.new ≡ log_of pass.old ++ _deed.now ∷ [] }
     {
         self.note_after::<J>(pass);
@@ -159,6 +169,7 @@ impl<T, C, D: Deeds<T, C>> Lock<T, C, D> {
         ensures made { made_of keeper.new ≡ made_of keeper.old }
         ensures out { keeper.new.out ≡ keeper.old.out - 1 }
         ensures told { told_of keeper.new ≡ told_of keeper.old ++ named (name_of pass) (log_of pass) }
+        ensures seens { seens_of keeper.new ≡ seens_of keeper.old ++ seen_of pass ∷ [] }
     {
         let Pass { seat } = pass;
         self.table
@@ -171,7 +182,7 @@ impl<T, C, D: Deeds<T, C>> Lock<T, C, D> {
     pub fn close(self, keeper: Keeper<T, C>) -> T
         requires keeper { IsKeeper self keeper }
         requires back { keeper.out ≡ 0 }
-        ensures { Leads D.does (first_of self) (told_of keeper) result }
+        ensures { Leads D.does (first_of self) (told_of keeper) (seens_of keeper) result }
     {
         let Lock { table } = self;
         let Keeper { seat, out: _ } = keeper;

@@ -18,7 +18,7 @@ pub struct LockRule<D> {
 impl<T, C, D: Deeds<T, C>> TableRule<T, Known<T, C>, Snapshot<T>> for LockRule<D> {
     ghost holds = { λ key s. IsLocked D.does key.value s };
 
-    ghost first = { λ key. Keeper key.value 0 0 [] };
+    ghost first = { λ key. Keeper key.value 0 0 [] [] };
 }
 
 /// A try to take the lock: its word is 0 if nobody has it.

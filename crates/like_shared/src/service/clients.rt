@@ -1,10 +1,10 @@
 //! Clients of a shared service are made, and come back.
-ghost use Rattle.std.specs.Prelude.{◌≡◌, ◌++◌, ◌+◌, ◌-◌, ◌<◌, ◌≤◌, ◌^◌, [], All, IfOk, MatchResult, false, length, map, replicate, vec_capacity};
+ghost use Rattle.std.specs.Prelude.{◌≡◌, ◌++◌, ◌+◌, ◌-◌, ◌<◌, ◌≤◌, ◌^◌, [], ◌∷◌, All, IfOk, MatchResult, false, length, map, replicate, vec_capacity};
 ghost use Rattle.std.specs.List.{AllZip};
 ghost use Rattle.told_lock.specs.Deeds.{named};
-ghost use Rattle.told_lock.specs.Rights.{IsKeeper, name_of, told_of};
-ghost use Rattle.like_shared.specs.Passes.{IsReady, log_at};
-ghost use Rattle.like_shared.specs.Shared.{IsClient, IsServiceKeeper, clients_out, driver_log, driver_told, held_by, seat_logs, seats_of, seats_told, with_logs};
+ghost use Rattle.told_lock.specs.Rights.{IsKeeper, name_of, seen_of, seens_of, told_of};
+ghost use Rattle.like_shared.specs.Passes.{IsReady, log_at, seen_at};
+ghost use Rattle.like_shared.specs.Shared.{IsClient, IsServiceKeeper, clients_out, driver_log, driver_seen, driver_told, held_by, seat_logs, seats_of, seats_seen, seats_told, with_logs, with_seen};
 
 use super::{SeatKeeper, ServiceKeeper, SharedService};
 use crate::client::Client;
@@ -25,6 +25,8 @@ impl SharedService {
             (λ _. keeper.new ≡ keeper.old) }
         ensures told { seats_told keeper.new ≡ seats_told keeper.old }
         ensures driver_told { driver_told keeper.new ≡ driver_told keeper.old }
+        ensures seen { seats_seen keeper.new ≡ seats_seen keeper.old }
+        ensures driver_seen { driver_seen keeper.new ≡ driver_seen keeper.old }
         ensures client { IfOk result (λ client. IsClient self.now client) }
         ensures logs { IfOk result (λ client. seat_logs client ≡ replicate (seats_of self.now) []) }
         ensures driver_log { IfOk result (λ client. driver_log client ≡ []) }
@@ -49,6 +51,8 @@ impl SharedService {
         ensures told { seats_told keeper.new ≡ with_logs (seats_told keeper.old) client.seats.items }
         ensures driver_told { driver_told keeper.new
             ≡ driver_told keeper.old ++ named (name_of client.driver) (driver_log client) }
+        ensures seen { seats_seen keeper.new ≡ with_seen (seats_seen keeper.old) client.seats.items }
+        ensures driver_seen { driver_seen keeper.new ≡ driver_seen keeper.old ++ seen_of client.driver ∷ [] }
     {
         let Client { seats, driver } = client;
         let out = keeper.driver.out;
@@ -72,6 +76,7 @@ fn new_passes(
     ensures keepers { AllZip IsKeeper locks.now keepers.new }
     ensures out { All (λ k. k.out ≡ _out + 1) keepers.new }
     ensures told { map told_of keepers.new ≡ map told_of keepers.old }
+    ensures seen { map seens_of keepers.new ≡ map seens_of keepers.old }
     ensures passes { AllZip IsReady locks.now result.items }
     ensures logs { map log_at result.items ≡ replicate (length locks.now) [] }
     ensures held { map (λ p. p.is_held) result.items ≡ replicate (length locks.now) false }
@@ -93,6 +98,7 @@ fn take_passes(locks: &[SeatLock], keepers: &mut [SeatKeeper], _out: u64, passes
     ensures keepers { AllZip IsKeeper locks.now keepers.new }
     ensures out { All (λ k. k.out ≡ _out - 1) keepers.new }
     ensures told { map told_of keepers.new ≡ with_logs (map told_of keepers.old) passes.items }
+    ensures seen { map seens_of keepers.new ≡ with_seen (map seens_of keepers.old) passes.items }
 {
     let mut seat = 0;
     for pass in passes {
@@ -108,6 +114,7 @@ fn take_pass(lock: &SeatLock, keeper: &mut SeatKeeper, pass: SeatPass)
     ensures keeper { IsKeeper lock.now keeper.new }
     ensures out { keeper.new.out ≡ keeper.old.out - 1 }
     ensures told { told_of keeper.new ≡ told_of keeper.old ++ named (name_of pass.pass) (log_at pass) }
+    ensures seen { seens_of keeper.new ≡ seens_of keeper.old ++ seen_at pass ∷ [] }
 {
     lock.take_back(keeper, free(lock, pass));
 }

@@ -1,7 +1,7 @@
 //! The end of a shared service.
 ghost use Rattle.std.specs.Prelude.{◌≡◌, ◌≤◌, [], All, IfErr, MatchBool, OnOk, length, map, vec_capacity};
 ghost use Rattle.std.specs.List.{AllZip};
-ghost use Rattle.told_lock.specs.Rights.{IsKeeper, first_of, told_of};
+ghost use Rattle.told_lock.specs.Rights.{IsKeeper, first_of, seens_of, told_of};
 ghost use Rattle.like_shared.specs.Closed.{AreEndsOf, IsClosedShared, IsNotClosed};
 ghost use Rattle.like_shared.specs.Shared.{AreBack, IsServiceKeeper, first_driver};
 
@@ -57,7 +57,7 @@ fn close_all(locks: Vec<SeatLock>, keepers: Vec<SeatKeeper>, back: &mut Vec<Live
     requires passes { All (λ k. k.out ≡ 0) keepers.items }
     requires none { back.old.items ≡ [] }
     requires room { length locks.items ≤ vec_capacity back.old }
-    ensures { AreEndsOf (map first_of locks.items) (map told_of keepers.items) back.new.items }
+    ensures { AreEndsOf (map first_of locks.items) (map told_of keepers.items) (map seens_of keepers.items) back.new.items }
 {
     for (lock, keeper) in locks.into_iter().zip(keepers) {
         back.push_reserved(lock.close(keeper));

@@ -9,7 +9,7 @@ pub returns : goal.returns
 returns g c =
     let a = c.join-a.result.0.0 in
     let b = c.join-a.result.1.0 in
-    let last = last-is c.logs_weigh_all.ensures _ _ _ c.close.ensures in
+    let last = last-is c.logs_weigh_all.ensures _ _ _ _ c.close.ensures in
     let first = c.in_ok-lock.ensures.first in
     let none = c.new_pass-b.ensures.told ∙ c.new_pass-a.ensures.told ∙ c.in_ok-lock.ensures.told in
     let one = c.take_back.ensures.told ∙ ap (λ (l : Named ℕ). l ++ named (name_of a) (log_of a)) none in

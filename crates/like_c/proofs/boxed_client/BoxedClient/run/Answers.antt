@@ -10,7 +10,7 @@ still-refused : {A : Type 0} (seat : ℕ) (deeds others : A → List SeatDeed) (
     → Calls seat deeds (Err status) b c → Calls seat others (Err status) b c
 still-refused seat deeds others status b c (made answer there told log keeps) = absurd (cc told)
 still-refused seat deeds others status b c (busy it there told log keeps) =
-    busy it there told (record { seats = log.seats; free = log.free; driver = log.driver; held = log.held }) keeps
+    busy it there told (record { seats = log.seats; seen = log.seen; free = log.free; driver = log.driver; held = log.held }) keeps
 still-refused seat deeds others status b c (no_seat none told same) = no_seat none told same
 
 pub returns-in-Ok-clause-case : goal.returns-in-Ok-clause-case

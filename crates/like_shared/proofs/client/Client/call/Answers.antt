@@ -21,5 +21,5 @@ pub returns-clause-log : goal.returns-clause-log
 returns-clause-log g c =
     logged-after c.args.service.now c.args.self.now c.args.seat c.requires.client c.requires.seat
     c.index_mut.result.now c.try_call.new.pass c.index_mut.ensures.value c.try_call.result
-    (λ told. g.Q.SeatCall.deed c.args.call.now told ∷ []) c.try_call.ensures.log c.try_call.ensures.free
+    (λ told. g.Q.SeatCall.deed c.args.call.now told ∷ []) c.try_call.ensures.log c.try_call.ensures.seen c.try_call.ensures.free
     c.try_call.ensures.held

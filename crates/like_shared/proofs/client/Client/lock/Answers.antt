@@ -26,7 +26,7 @@ returns-clause-free c =
 pub returns-clause-logs : goal.returns-clause-logs
 returns-clause-logs c =
     logs-same c.args.service.now c.args.self.now c.args.seat c.requires.client c.requires.seat c.index_mut.result.now
-    c.try_lock.new.pass c.index_mut.ensures.value c.try_lock.ensures.log
+    c.try_lock.new.pass c.index_mut.ensures.value c.try_lock.ensures.log c.try_lock.ensures.seen
 
 pub returns-clause-held : goal.returns-clause-held
 returns-clause-held c =

@@ -21,5 +21,5 @@ pub returns-clause-log : goal.returns-clause-log
 returns-clause-log g c =
     logged-after c.args.service.now c.args.self.now c.args.seat c.requires.client c.requires.seat
     c.index_mut.result.now c.try_row.new.pass c.index_mut.ensures.value c.try_row.result
-    (λ told. g.Q.SeatRow.deeds c.args.row.now told c.try_row.new.places) c.try_row.ensures.log c.try_row.ensures.free
+    (λ told. g.Q.SeatRow.deeds c.args.row.now told c.try_row.new.places) c.try_row.ensures.log c.try_row.ensures.seen c.try_row.ensures.free
     c.try_row.ensures.held

@@ -1,4 +1,5 @@
-use Rattle.std.proofs.Common.{arith, false}
+use Rattle.std.proofs.Common.{[], arith, append-nil, false, sym, ◌∙◌}
+use Rattle.like_shared.specs.Passes.{seen_at}
 use Rattle.like_shared.proofs.Clients.{client-after, held-set, logs-same, pass-ready, pass-there}
 use Rattle.like_shared.proofs.client.Client.unlock.Goals as goal
 
@@ -21,6 +22,7 @@ pub returns-clause-logs : goal.returns-clause-logs
 returns-clause-logs c =
     logs-same c.args.service.now c.args.self.now c.args.seat c.requires.client c.requires.seat c.index_mut.result.now
     c.unlock.new.pass c.index_mut.ensures.value c.unlock.ensures.log
+    ([], c.unlock.ensures.seen ∙ sym (append-nil (seen_at c.index_mut.result.now)))
 
 pub returns-clause-held : goal.returns-clause-held
 returns-clause-held c =

@@ -16,11 +16,11 @@ close-requires-clause-keeper c =
 pub returns-clause-closed : goal.returns-clause-closed
 returns-clause-closed c =
     on_ok_weaker c.close.result
-    (λ closed. record { keeper = c.close-keeper.result; last = c.close-keeper.ensures; closed = closed })
+    (λ closed. record { keeper = c.close-keeper.result; seen = _; last = c.close-keeper.ensures; closed = closed })
     c.close.ensures.closed
 
 pub returns-clause-not : goal.returns-clause-not
 returns-clause-not c =
     IfErr-weaker c.close.result (IsNotClosed c.args.self.service c.close-keeper.result)
     (IsNotClosedWith c.args.self (told_of c.args.cards))
-    (λ why is. (c.close-keeper.result, c.close-keeper.ensures, is)) c.close.ensures.not
+    (λ why is. (c.close-keeper.result, _, c.close-keeper.ensures, is)) c.close.ensures.not

@@ -1,7 +1,7 @@
 use Rattle.std.proofs.Common.{Bool, true, false}
 use Rattle.std.specs.Prelude.{MatchBool}
 use Rattle.told_lock.specs.Deeds.{deeds_in}
-use Rattle.told_lock.specs.Rights.{first_of}
+use Rattle.told_lock.specs.Rights.{first_of, seen_of}
 use Rattle.like_shared.proofs.Desks.{stays-kept}
 use Rattle.like_shared.proofs.Kept.{kept}
 use Rattle.like_shared.proofs.hub.Hub.enter.Goals as goal
@@ -15,5 +15,5 @@ pub returns-clause-entered : goal.returns-clause-entered
 returns-clause-entered c =
     let h = c.args.self.now in
     match-more c.try_take.result _ _ _
-    (λ it. (it.0, it.1, stays-kept h.service (first_of h.desk) it.0 (deeds_in it.2.order) (kept h) it.2.run))
+    (λ it. (it.0, it.1, stays-kept h.service (first_of h.desk) it.0 (deeds_in (seen_of c.try_take.new.pass)) (kept h) it.2))
     c.try_take.ensures.taken

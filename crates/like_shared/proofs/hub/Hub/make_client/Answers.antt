@@ -10,7 +10,7 @@ use Rattle.like_shared.specs.declared.hub.Hub.{Hub}
 use Rattle.like_shared.specs.declared.service.ServiceKeeper.{ServiceKeeper}
 use Rattle.like_shared.specs.Desk.{KeepsTold}
 use Rattle.like_shared.specs.Hubs.{IsAtDesk}
-use Rattle.like_shared.specs.Shared.{IsServiceKeeper, clients_out, driver_told, seats_told}
+use Rattle.like_shared.specs.Shared.{IsServiceKeeper, clients_out, driver_seen, driver_told, seats_seen, seats_told}
 use Rattle.like_shared.proofs.Desks.{as-held, as-written}
 use Rattle.like_shared.proofs.hub.Hub.make_client.Goals as goal
 
@@ -23,8 +23,9 @@ HasMade h card result = MatchResult result
 has-made : (h : Hub) (card : Pass ServiceKeeper DeskDeed) (k old l : ServiceKeeper) (result : Result Client AllocError)
     → IsHolding h.desk card k k → IsServiceKeeper h.service k → old ≡ k → IsServiceKeeper h.service l
     → MatchResult result (λ _. clients_out l ≡ clients_out old + 1) (λ _. l ≡ old)
-    → seats_told l ≡ seats_told old → driver_told l ≡ driver_told old → HasMade h (pass_with card l) result
-has-made h card k old l (Ok client) holding is same after out told driver = (
+    → seats_told l ≡ seats_told old → driver_told l ≡ driver_told old → seats_seen l ≡ seats_seen old
+    → driver_seen l ≡ driver_seen old → HasMade h (pass_with card l) result
+has-made h card k old l (Ok client) holding is same after out told driver seen driver-too = (
   k,
   l,
   as-written h.desk card k l holding,
@@ -34,9 +35,11 @@ has-made h card k old l (Ok client) holding is same after out told driver = (
     out ∙ ap (λ x. clients_out x + 1) same,
     told ∙ ap seats_told same,
     driver ∙ ap driver_told same,
+    seen ∙ ap seats_seen same,
+    driver-too ∙ ap driver_seen same,
   ),
 )
-has-made h card k old l (Err why) holding is same after out told driver =
+has-made h card k old l (Err why) holding is same after out told driver seen driver-too =
     (k, subst (IsHolding h.desk (pass_with card l) k) (out ∙ same) (as-written h.desk card k l holding), is)
 
 pub returns-clause-made : goal.returns-clause-made
@@ -48,4 +51,4 @@ returns-clause-made c =
     let same = as-held h.desk card at.0 c.value_mut.result.now it.0 it.0 at.1 it.1 in
     let told = c.new_client.ensures in
     has-made h card it.0 c.value_mut.result.now c.new_client.new.keeper c.new_client.result it.1 it.2 same told.keeper
-    told.out told.told told.driver_told
+    told.out told.told told.driver_told told.seen told.driver_seen

@@ -2,7 +2,7 @@ use Rattle.std.proofs.Common.{◌+◌, false, [], ◌∷◌, ◌++◌, length, m
 use Rattle.std.specs.List.{AllZip}
 use Rattle.std.proofs.lemmas.List.{get_or-set_other, length_push, map-append, replicate_more}
 use Rattle.std.proofs.lemmas.Slice.Zip.{AllZip-long}
-use Rattle.told_lock.specs.Rights.{IsKeeper, told_of}
+use Rattle.told_lock.specs.Rights.{IsKeeper, seens_of, told_of}
 use Rattle.like_shared.specs.declared.seat_call.SeatPass.{SeatPass}
 use Rattle.like_shared.specs.Passes.{IsReady, log_at}
 use Rattle.like_shared.proofs.Places.{IsOut, all-set, all-whole, map-alike, out-at, zip-more, zip-read, zip-set}
@@ -42,15 +42,17 @@ loop-seat-preserved c =
     let less = c.loop-seat-test.true in
     let all = AllZip-long IsKeeper c.args.locks.now l.keepers l.invariant.keepers in
     let first = AllZip-long IsKeeper c.args.locks.now c.args.keepers.now c.requires.keepers in
-    let seen = out-at c.args.keepers.now l.keepers c.args._out l.seat keeper.result (omega (arith, less, first))
+    let one-out = out-at c.args.keepers.now l.keepers c.args._out l.seat keeper.result (omega (arith, less, first))
     c.requires.out (l.invariant.rest l.seat keeper.result (omega arith)) in
     record {
       keepers = zip-set IsKeeper c.args.locks.now l.keepers l.seat lock.result after l.invariant.keepers less lock.is
           did.keeper;
       out = all-set (IsOut (c.args._out + 1)) l.keepers l.seat after (omega (arith, less, all)) l.invariant.out
-          (did.out ∙ ap (λ n. n + 1) seen);
+          (did.out ∙ ap (λ n. n + 1) one-out);
       told = map-alike told_of l.keepers l.seat keeper.result after (omega (arith, less, all)) keeper.is
           (did.told ∙ ap told_of (sym keeper.is)) ∙ l.invariant.told;
+      seen = map-alike seens_of l.keepers l.seat keeper.result after (omega (arith, less, all)) keeper.is
+          (did.seens ∙ ap seens_of (sym keeper.is)) ∙ l.invariant.seen;
       rest = λ i d past.
           get_or-set_other l.keepers l.seat i after d (λ same. omega (arith, past, same)) ∙ l.invariant.rest i d (omega (arith, past));
       passes = subst (AllZip IsReady (take (l.seat + 1) c.args.locks.now)) (sym c.push_reserved.ensures.items)

@@ -1,12 +1,12 @@
-use Rattle.std.proofs.Common.{◌+◌, ◌-◌, ◌<◌, ◌++◌, get_or, length, map, set, sym, ap, ◌∙◌, subst, arith}
+use Rattle.std.proofs.Common.{◌+◌, ◌-◌, ◌<◌, [], ◌∷◌, ◌++◌, get_or, length, map, set, sym, ap, ◌∙◌, subst, arith}
 use Rattle.std.proofs.lemmas.Iterator.Adapters.{YieldsList-from_vec}
 use Rattle.std.proofs.lemmas.Iterator.Consumers.{YieldsList-end, YieldsList-turn}
 use Rattle.std.proofs.lemmas.List.{get_or-set_other, length_push, map-id}
 use Rattle.std.proofs.lemmas.Slice.Zip.{AllZip-long}
 use Rattle.told_lock.specs.Deeds.{named}
-use Rattle.told_lock.specs.Rights.{IsKeeper, name_of, told_of}
-use Rattle.like_shared.specs.Passes.{IsReady, log_at}
-use Rattle.like_shared.proofs.Backs.{told-more}
+use Rattle.told_lock.specs.Rights.{IsKeeper, name_of, seens_of, told_of}
+use Rattle.like_shared.specs.Passes.{IsReady, log_at, seen_at}
+use Rattle.like_shared.proofs.Backs.{each-back}
 use Rattle.like_shared.proofs.Places.{IsOut, all-set, all-whole, out-at, zip-read, zip-set}
 use Rattle.like_shared.proofs.service.clients.take_passes.Goals as goal
 
@@ -102,12 +102,12 @@ loop-pass-preserved c =
     let pass = c.in-Some.pass in
     let next = l.invariant.next in
     let first = AllZip-long IsKeeper c.args.locks.now c.args.keepers.now c.requires.keepers in
-    let seen = out-at c.args.keepers.now l.keepers c.args._out l.seat keeper.result
+    let one-out = out-at c.args.keepers.now l.keepers c.args._out l.seat keeper.result
     (omega (arith, turn.0, next, passes, first)) c.requires.out (l.invariant.rest l.seat keeper.result (omega arith)) in
     record {
       next = ap (λ n. n + 1) next ∙ sym (length_push l.yielded pass);
       out = all-set (IsOut (c.args._out - 1)) l.keepers l.seat after (omega (arith, turn.0, next, passes, keepers))
-          l.invariant.out (did.out ∙ ap (λ n. n - 1) seen);
+          l.invariant.out (did.out ∙ ap (λ n. n - 1) one-out);
       rest = λ i d past.
           get_or-set_other l.keepers l.seat i after d (λ same. omega (arith, past, same)) ∙ l.invariant.rest i d (omega (arith, past));
       keepers =
@@ -115,9 +115,16 @@ loop-pass-preserved c =
           (omega (arith, turn.0, next, passes)) lock.is did.keeper;
       told =
           ap (λ i. map told_of (set l.keepers i after)) next
-          ∙ told-more (map told_of c.args.keepers.now) l.keepers l.yielded keeper.result after pass l.invariant.told
+          ∙ each-back (λ told p. told ++ named (name_of p.pass) (log_at p)) [] told_of (map told_of c.args.keepers.now)
+          l.keepers l.yielded keeper.result after pass l.invariant.told
           (omega (arith, turn.0, passes, keepers)) (keeper.is ∙ ap (λ i. get_or l.keepers i keeper.result) next)
           (did.told ∙ ap (λ k. told_of k ++ named (name_of pass.pass) (log_at pass)) (sym keeper.is));
+      seen =
+          ap (λ i. map seens_of (set l.keepers i after)) next
+          ∙ each-back (λ seen p. seen ++ seen_at p ∷ []) [] seens_of (map seens_of c.args.keepers.now)
+          l.keepers l.yielded keeper.result after pass l.invariant.seen
+          (omega (arith, turn.0, passes, keepers)) (keeper.is ∙ ap (λ i. get_or l.keepers i keeper.result) next)
+          (did.seen ∙ ap (λ k. seens_of k ++ seen_at pass ∷ []) (sym keeper.is));
     }
 
 pub returns-clause-out : goal.returns-clause-out

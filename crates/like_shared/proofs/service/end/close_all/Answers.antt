@@ -7,7 +7,7 @@ use Rattle.std.proofs.lemmas.List.{map-id}
 use Rattle.std.proofs.lemmas.List.Elements.{All-get_or}
 use Rattle.like_live.specs.LiveView.{LiveView}
 use Rattle.like_shared.specs.Closed.{AreEndsOf}
-use Rattle.like_shared.proofs.Closing.{IsBack, Kept, all-back, ends-kept, ends-whole, first_at, told_at}
+use Rattle.like_shared.proofs.Closing.{IsBack, Kept, all-back, ends-kept, ends-whole, first_at, seen_in, told_at}
 use Rattle.like_shared.proofs.service.end.close_all.Goals as goal
 
 pub close-requires-clause-keeper : goal.close-requires-clause-keeper
@@ -35,7 +35,7 @@ loop-lock-preserved c =
     let more = l.yielded ++ (c.in-Some.lock, c.in-Some.keeper) ∷ [] in
     let pushed = c.push_reserved.ensures.items in
     record {
-      ends = subst (AreEndsOf (map first_at more) (map told_at more)) (sym {A = List LiveView} pushed)
+      ends = subst (AreEndsOf (map first_at more) (map told_at more) (map seen_in more)) (sym {A = List LiveView} pushed)
           (ends-kept l.yielded c.in-Some.lock c.in-Some.keeper l.back.items c.close.result l.invariant.ends
           c.close.ensures);
       len = omega (
