@@ -1,6 +1,6 @@
 -- A pass takes the lock and gives it back: both steps keep the rule.
 use Rattle.std.proofs.Common.{◌≡◌, ◌≢◌, ◌==◌, ℕ, ◌<◌, Bool, true, false, inl, inr, List, [], ◌∷◌, ◌++◌, length, set, slice_index, slice_set, Option, Some, None, refl, sym, ap, ◌∙◌, subst, arith, eq-eqb, ne_eqb, if◌then◌else◌}
-use Rattle.std.specs.Prelude.{All, MatchBool}
+use Rattle.std.specs.Prelude.{MatchBool}
 use Rattle.std.proofs.lemmas.List.Elements.{All-weaker}
 use Rattle.std.proofs.lemmas.Bool.{cases_eq}
 use Rattle.std.proofs.lemmas.List.{get_or-set_same, length-set, set-get_or}
@@ -41,12 +41,25 @@ match-false : (b : Bool) (P Q : Type 0) → b ≡ false → Q → MatchBool b P 
 match-false true P Q is q = absurd (cc is)
 match-false false P Q is q = q
 
--- a pass's log, once it has told these deeds
-pub log-more : {T C : Type 0} (me : Me T (Known T C)) (n : ℕ) (seen : Named C) (done : List C) {f : T} {taken : Option T}
-    {carried : List (ℕ × T)} → me ≡ (Pass f n (seen ++ named n done) taken, carried)
-    → deeds_by (name_in me.0) (seen_in me.0) ≡ deeds_by n seen ++ done
-log-more {T} {C} me n seen done is =
-    ap (λ (m : Me T (Known T C)). deeds_by (name_in m.0) (seen_in m.0)) is ∙ own-more n seen (deeds_by n seen) done refl
+module _ {T C : Type 0} (me after : Me T (Known T C)) (n : ℕ) (seen : Named C) (done : List C) where
+  -- a pass's log, once it has told these deeds
+  log-more : {f : T} {taken : Option T} {carried : List (ℕ × T)}
+      → after ≡ (Pass f n (seen ++ named n done) taken, carried)
+      → deeds_by (name_in after.0) (seen_in after.0) ≡ deeds_by n seen ++ done
+  log-more is =
+      ap (λ (m : Me T (Known T C)). deeds_by (name_in m.0) (seen_in m.0)) is ∙ own-more n seen (deeds_by n seen) done refl
+
+  -- and given the lock back
+  pub log-given : {f : T} {taken : Option T} {carried : List (ℕ × T)}
+      → me ≡ (Pass f n seen taken, carried) → after ≡ (given_back me.0 done, [])
+      → deeds_by (name_in after.0) (seen_in after.0) ≡ deeds_by n seen ++ done
+  log-given was is = log-more (is ∙ ap (λ (m : Me T (Known T C)). (given_back m.0 done, [])) was)
+
+  -- or kept it
+  pub log-noted : {f now : T} {slot : ℕ} {taken : Option T} {carried : List (ℕ × T)}
+      → me ≡ (Pass f n seen taken, (slot, now) ∷ carried) → after ≡ (noted me.0 me.1 done, me.1)
+      → deeds_by (name_in after.0) (seen_in after.0) ≡ deeds_by n seen ++ done
+  log-noted was is = log-more (is ∙ ap (λ (m : Me T (Known T C)). (noted m.0 m.1 done, m.1)) was)
 
 module _ {T C : Type 0} (does : T → C → T → Type 0) (first : T) where
   -- what is so of a pass that is out

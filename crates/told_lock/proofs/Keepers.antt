@@ -11,6 +11,11 @@ abbrev pub Stays : {T C E : Type 0} (D : Type 0) → Keeper T C → E → Keeper
 Stays {T} {C} D k e l = (lock : Lock T C D) × IsKeeper lock k × IsKeeper lock l
 
 module _ {T C D : Type 0} where
+  -- what it knows
+  pub kept : (lock : Lock T C D) (k : Keeper T C) → IsKeeper lock k
+      → k.seat.me.0 ≡ Keeps (first_of lock) (made_of k) k.out (told_of k) (seens_of k)
+  kept lock k is = ap (λ m. m.0) is.keeping
+
   -- it has one lock
   pub one-lock : (lock other : Lock T C D) (k l : Keeper T C) → IsKeeper lock k → IsKeeper other k → IsKeeper other l
       → IsKeeper lock l

@@ -1,7 +1,6 @@
-use Rattle.std.proofs.Common.{sym, ap, ◌∙◌, subst, arith}
-use Rattle.told_lock.specs.Known.{noted}
+use Rattle.std.proofs.Common.{sym, subst, arith}
 use Rattle.told_lock.specs.Rights.{first_of, name_of, seen_of}
-use Rattle.told_lock.proofs.Holding.{MayNote, log-more, notes}
+use Rattle.told_lock.proofs.Holding.{MayNote, log-noted, notes}
 use Rattle.told_lock.proofs.lock.Lock.note_after.Goals as goal
 
 pub store-requires : goal.store-requires
@@ -17,6 +16,5 @@ store-requires g c =
 
 pub returns-clause-log : goal.returns-clause-log
 returns-clause-log g c =
-    let done = g.J.Done.done in
     let p = c.args.pass.now in
-    log-more c.store.new.seat.me (name_of p) (seen_of p) done (c.store.ensures.2 ∙ ap (λ m. (noted m.0 m.1 done, m.1)) c.requires.2.holding)
+    log-noted p.seat.me c.store.new.seat.me (name_of p) (seen_of p) g.J.Done.done c.requires.2.holding c.store.ensures.2

@@ -1,5 +1,6 @@
 use Rattle.std.proofs.Common.{sym, ap, subst, arith}
 use Rattle.told_lock.specs.Rights.{first_of}
+use Rattle.told_lock.proofs.Keepers.{kept}
 use Rattle.told_lock.proofs.Keeping.{MayJoin, joins}
 use Rattle.told_lock.proofs.lock.Lock.take_back.Goals as goal
 
@@ -15,6 +16,6 @@ join_seat-requires g c =
       pass.here,
       ap (λ m. m.1) pass.idle,
       omega (arith, words),
-      subst (λ v. may v other.id other.me.0) (sym (ap (λ m. m.0) it.keeping))
+      subst (λ v. may v other.id other.me.0) (sym (kept lock c.args.keeper.now it))
           (subst (may _ other.id) (sym (ap (λ m. m.0) pass.idle)) (joins g.D.Deeds.does (first_of lock))),
     )
