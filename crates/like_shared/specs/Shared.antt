@@ -102,7 +102,8 @@ pub record AreLogged {A : Type 0} (before : Client) (seat : ℕ) (deeds : A → 
     (after : Client) : Type 0 where
   pub seats : MatchResult result (λ told. seat_logs after ≡ with_deeds (seat_logs before) seat (deeds told))
       (λ busy. seat_logs after ≡ seat_logs before)
-  pub seen : MatchResult result (λ told. ComeNext before seat (deeds told) after) (λ busy. ComeNext before seat [] after)
+  pub seen : MatchResult result (λ told. ComeNext before seat (deeds told) after)
+      (λ busy. ComeNext before seat [] after)
   pub free : IfErr result (λ busy. IsFalse (holds before seat))
   pub driver : driver_log after ≡ driver_log before
   pub held : held_by after ≡ held_by before

@@ -56,7 +56,8 @@ pub fn try_call<Q: SeatCall>(
     ensures name { name_of pass.new.pass ≡ name_of pass.old.pass }
     ensures log { MatchResult result (λ answer. log_at pass.new ≡ log_at pass.old ++ Q.deed call.now answer ∷ [])
         (λ _. log_at pass.new ≡ log_at pass.old) }
-    ensures seen { MatchResult result (λ answer. SeesNext pass.old.pass (Q.deed call.now answer ∷ []) pass.new.pass)
+    ensures seen { MatchResult result
+        (λ answer. SeesNext pass.old.pass (Q.deed call.now answer ∷ []) pass.new.pass)
         (λ _. SeesNext pass.old.pass [] pass.new.pass) }
     ensures free { IfErr result (λ _. IsFalse pass.old.is_held) }
 {

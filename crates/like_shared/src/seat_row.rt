@@ -48,7 +48,8 @@ pub fn try_row<Q: SeatRow>(
     ensures log { MatchResult result
         (λ answer. log_at pass.new ≡ log_at pass.old ++ Q.deeds row.now answer places.new)
         (λ _. log_at pass.new ≡ log_at pass.old) }
-    ensures seen { MatchResult result (λ answer. SeesNext pass.old.pass (Q.deeds row.now answer places.new) pass.new.pass)
+    ensures seen { MatchResult result
+        (λ answer. SeesNext pass.old.pass (Q.deeds row.now answer places.new) pass.new.pass)
         (λ _. SeesNext pass.old.pass [] pass.new.pass) }
     ensures free { IfErr result (λ _. IsFalse pass.old.is_held) }
     ensures places { MatchResult result (λ answer. Q.writes row.now answer places.old places.new)

@@ -66,7 +66,8 @@ fn close(lock: Sum, desk: Desk) -> Option<u64>
 
 // Two passes add a number each and are given back at the desk. The number, if all went well.
 fn added_at_desk(alloc: Global, first: u64, one: u64, two: u64) -> Result<Option<u64>, AllocError>
-    ensures { IfOk result (λ found. IfSome found (λ value. (told : _) × (seen : _) × Leads Added first told seen value)) }
+    ensures { IfOk result (λ found. IfSome found (λ value. (told : _) × (seen : _)
+        × Leads Added first told seen value)) }
 {
     let (lock, mut keeper) = Sum::new(alloc, first)?;
     let a = lock.new_pass(&mut keeper);

@@ -32,8 +32,8 @@ ContinuesWithout name before after = (more : _) × (after ≡ before ++ more) ×
 
 -- what the passes told leads from the first value to the last: one order of all deeds does, in which each pass's deeds
 -- are those that it told, in its order. It continues the order as each of them has seen it
-pub record Leads {T C : Type 0} (does : T → C → T → Type 0) (first : T) (told : Named C) (seen : List (Named C)) (last : T)
-    : Type 0 where
+pub record Leads {T C : Type 0} (does : T → C → T → Type 0) (first : T) (told : Named C) (seen : List (Named C))
+    (last : T) : Type 0 where
   pub order : Named C
   pub own : (name : ℕ) → deeds_by name order ≡ deeds_by name told
   pub run : HasRun does first (deeds_in order) last

@@ -57,7 +57,8 @@ fn close_all(locks: Vec<SeatLock>, keepers: Vec<SeatKeeper>, back: &mut Vec<Live
     requires passes { All (λ k. k.out ≡ 0) keepers.items }
     requires none { back.old.items ≡ [] }
     requires room { length locks.items ≤ vec_capacity back.old }
-    ensures { AreEndsOf (map first_of locks.items) (map told_of keepers.items) (map seens_of keepers.items) back.new.items }
+    ensures { AreEndsOf (map first_of locks.items) (map told_of keepers.items) (map seens_of keepers.items)
+        back.new.items }
 {
     for (lock, keeper) in locks.into_iter().zip(keepers) {
         back.push_reserved(lock.close(keeper));
