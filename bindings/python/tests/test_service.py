@@ -100,6 +100,7 @@ class Openings(unittest.TestCase):
             ({"seats": 2**32 - 1}, Status.WRONG_SEATS),
             ({"room": 0}, Status.WRONG_ROOM),
             ({"hot": 1000001}, Status.WRONG_HOT),
+            ({"hot": 0}, Status.WRONG_HOT),
             ({"users": 0}, Status.WRONG_USERS),
             ({"period": 1001}, Status.WRONG_PERIOD),
             ({"counts": []}, Status.WRONG_PAGES),
