@@ -255,7 +255,8 @@ uint32_t likes_service_bring_back_seat(likes_service *service, uint32_t number);
  * Or nothing is done: LIKES_OPEN_WRITER or LIKES_NO_MEMORY. No thread holds a seat, and no call of the service is begun
  * any more but likes_service_lock, likes_seat_take_found, likes_service_take_found, likes_service_unlock,
  * likes_service_last, likes_service_lasts, likes_service_counts, likes_service_snapshot, likes_service_save,
- * likes_service_stop, likes_service_close, and those that only tell a number or a status. */
+ * likes_service_retire_seat, likes_service_bring_back_seat, likes_service_retire, likes_service_stop,
+ * likes_service_close, and those that only tell a number or a status. */
 uint32_t likes_service_retire(likes_service *service);
 
 /* Ends the service and gives the final counts: LIKES_OK. Or nothing is done: LIKES_OPEN_WRITER, or LIKES_WRONG_LENGTH,

@@ -84,13 +84,12 @@ func (p *Pool) Like(user, page uint32) error {
 
 // Look gives the exact count, and shows all likes of the user that the pool was told before.
 func (p *Pool) Look(user, page uint32) (Seen, error) {
-	switch err := p.with(p.lane(user), (*Writer).Flush); err {
-	case nil, ErrGone:
-		// Where another seat has left, this look needn't show its likes. Where the user's own has, it is ErrGone, too.
-		return p.service.Look(user, page)
-	default:
+	// Where another seat has left, this look needn't show its likes.
+	err := p.with(p.lane(user), func(w *Writer) error { return w.flushSeatOf(user) })
+	if err != nil {
 		return Seen{}, err
 	}
+	return p.service.Look(user, page)
 }
 
 // Flush hands over all likes: each is counted. Else it gives the first error of Writer.Flush.

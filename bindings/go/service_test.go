@@ -452,6 +452,46 @@ func TestLeaving(t *testing.T) {
 	}
 }
 
+// A pool's look shows all that its user was told, or is refused, while the user's seat leaves and comes back.
+func TestLooksWhileASeatComesBack(t *testing.T) {
+	const looks = 60000
+	service := start(t, Options{Seats: 1, Users: 1, Period: short}, 0, 0)
+	pool, err := service.NewPool()
+	if err != nil {
+		t.Fatal(err)
+	}
+	ended := make(chan struct{})
+	go func() {
+		defer close(ended)
+		for i := uint32(0); i < looks; i++ {
+			if err := pool.Like(0, i%2); err != nil {
+				continue // 64 likes are kept
+			}
+			if seen, err := pool.Look(0, 0); err == nil && seen.Last != i%2 {
+				t.Error(seen, i)
+			} else if err != nil && !errors.Is(err, ErrGone) {
+				t.Error(err)
+			}
+		}
+	}()
+	for goesOn := true; goesOn; {
+		for _, err := range []error{service.RetireSeat(0), service.BringBackSeat(0)} {
+			if err != nil {
+				t.Error(err)
+			}
+		}
+		select {
+		case <-ended:
+			goesOn = false
+		default:
+		}
+	}
+	if err := pool.Close(); err != nil {
+		t.Error(err)
+	}
+	stop(t, service)
+}
+
 // A goroutine that holds a seat gets an error where it would wait for itself.
 func TestHeld(t *testing.T) {
 	service := start(t, Options{Seats: 2, Users: 4, Room: 4, Marks: []uint32{0}, Period: short}, 0, 0)

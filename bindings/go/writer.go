@@ -61,6 +61,17 @@ func (w *Writer) Flush() error {
 	return wanted(C.likes_writer_flush(w.c), OK)
 }
 
+// flushSeatOf hands over the likes of the user's seat: ErrGone or ErrLikeLimit, if they stay kept.
+func (w *Writer) flushSeatOf(user uint32) error {
+	var answer C.likes_answer
+	// No page has this number, so it shows nothing.
+	told := C.likes_writer_look(w.c, C.uint32_t(user), C.uint32_t(NoPage), &answer)
+	if Error(told) == ErrUnknownPage {
+		return nil
+	}
+	return wanted(told, OK)
+}
+
 // Drop forgets the likes that are kept, and gives their number. They are not counted.
 func (w *Writer) Drop() int {
 	return int(C.likes_writer_drop(w.c))

@@ -101,7 +101,8 @@ static void moments_of_none(uint32_t period) {
         look_until_split(false);
     }
     IS(likes, ROUNDS);
-    IS(likes_service_retire(service), LIKES_OK);
+    for (int times = 0; times < 2; times++)
+        IS(likes_service_retire(service), LIKES_OK);
     IS(likes_service_bring_back_seat(service, 0), LIKES_GONE);
     IS(likes_service_retire_seat(service, 0), LIKES_OK);
     IS(likes_service_counts(service, counts, PAGES), LIKES_COUNTED);

@@ -5,7 +5,7 @@ share. A program that changes phases by itself opens a Driver and takes its Seat
 
 A number that C would cut, below 0 or over 2^32 - 1, is a ValueError, and what isn't a whole number is a TypeError; then
 nothing was done. What the library refuses is a Refused with its Status, and any call after close is Closed, but for a
-service's statistics.
+service's statistics and a drop, which gives 0.
 
 The library is the file that LIKES_LIBRARY names, or else the shared library of this version, where the system finds it.
 """

@@ -7,7 +7,7 @@ from ctypes import POINTER, Structure, c_bool, c_char_p, c_size_t, c_uint32, c_u
 from functools import lru_cache
 from typing import Any, NoReturn, Optional, Sequence, Union
 
-from ._statuses import MAX_PERIOD_US, NO_PAGE
+from ._statuses import MAX_PERIOD_US, NO_HOT, NO_PAGE
 
 VERSION = 6  # LIKES_VERSION of the likes.h that this package is written for
 SHARED = "liblikes.so.0.6"
@@ -195,9 +195,9 @@ def microseconds(name: str, seconds: float, most: int) -> int:
     return int(min(seconds * 1000000, most))
 
 
-def given(name: str, number: Optional[int]) -> int:
+def given(name: str, number: Optional[int], wrong: int = MOST) -> int:
     """A number for C, where 0 is the default. Here that is None, and 0 is a wrong number."""
-    return 0 if number is None else whole(name, number) or MOST
+    return 0 if number is None else whole(name, number) or wrong
 
 
 class Single:
@@ -236,6 +236,6 @@ class Opening:
             users=whole("users", users),
             seats=given("seats", seats),
             room=given("room", room),
-            hot=0 if hot is None else whole("hot", hot),
+            hot=given("hot", hot, NO_HOT - 1),
             period_us=0 if period is None else max(1, microseconds("period", period, MAX_PERIOD_US + 1)),
         )

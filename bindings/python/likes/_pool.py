@@ -5,13 +5,14 @@ import queue
 import threading
 import warnings
 from contextlib import suppress
+from ctypes import byref
 from types import TracebackType
 from typing import TYPE_CHECKING, List, Optional, Type
 
 from ._errors import Closed, Refused, check, refuse_again
-from ._library import Single, whole
+from ._library import Answer, Single, whole
 from ._rows import Seen
-from ._statuses import Status
+from ._statuses import NO_PAGE, Status
 
 if TYPE_CHECKING:
     from ._service import Likes, Writer
@@ -113,12 +114,10 @@ class Pool(Single):
 
     def look(self, user: int, page: int) -> Seen:
         """What the user liked last, with all likes of the user that the pool was told before, and the exact count."""
-        try:
-            self._lane(user).flush()
-        except Refused as why:
-            # Where another seat has left, this look needn't show its likes. Where the user's own has, it is refused.
-            if why.status != Status.GONE:
-                raise
+        lane, user = self._lane(user), whole("user", user)
+        # It hands over the row of the user's seat alone: where another seat has left, this look needn't show its likes.
+        # No page has this number, so it shows nothing.
+        check(lane._call(lane._library.likes_writer_look, user, NO_PAGE, byref(Answer())), Status.UNKNOWN_PAGE)
         return self._service.look(user, page)
 
     def flush(self) -> None:

@@ -100,6 +100,7 @@ class Openings(unittest.TestCase):
             ({"seats": 2**32 - 1}, Status.WRONG_SEATS),
             ({"room": 0}, Status.WRONG_ROOM),
             ({"hot": 1000001}, Status.WRONG_HOT),
+            ({"hot": 0}, Status.WRONG_HOT),
             ({"users": 0}, Status.WRONG_USERS),
             ({"period": 1001}, Status.WRONG_PERIOD),
             ({"counts": []}, Status.WRONG_PAGES),
@@ -391,6 +392,21 @@ class Service(unittest.TestCase):
             pool.like(1, 0)
             self.assertEqual(pool.drop(), 1)
         self.assertEqual(service.stop().counts, [7, 0])
+
+    def test_a_seat_that_comes_back_meanwhile(self) -> None:
+        """A pool's look shows all that its user was told, or is refused."""
+        with opened(users=4) as service, service.pool() as pool:
+            look = service.look
+
+            def look_late(user: int, page: int) -> Seen:
+                service.bring_back_seat(1)
+                return look(user, page)
+
+            service.retire_seat(1)
+            pool.like(1, 0)
+            with mock.patch.object(service, "look", look_late):
+                self.refused(Status.GONE, pool.look, 1, 0)
+            service.bring_back_seat(1)
 
     def test_likes_while_a_pool_closes(self) -> None:
         """A pool is closed as a whole, or stays open. A like of another thread comes before, or raises Closed."""

@@ -65,7 +65,9 @@ func TestMoments(t *testing.T) {
 			done[user] = liker(t, c, uint32(user))
 		}(user)
 	}
+	var counted uint64
 	check := func(m *saved.Moment) error {
+		counted = m.Likes()
 		for user := uint32(0); user < users; user++ {
 			if !holds(m, user) {
 				t.Errorf("user %d: %v", user, m)
@@ -73,9 +75,10 @@ func TestMoments(t *testing.T) {
 		}
 		return nil
 	}
-	for times := 0; times < 100; times++ {
+	// On a busy machine, the first like may come late.
+	for times := 0; times < 100 || counted == 0; times++ {
 		if err := c.moment(check); err != nil {
-			t.Error(err)
+			t.Fatal(err)
 		}
 	}
 	last, err := c.end()
@@ -88,7 +91,7 @@ func TestMoments(t *testing.T) {
 	for _, likes := range done {
 		sum += likes
 	}
-	if last.Likes() != sum || sum == 0 {
+	if last.Likes() != sum {
 		t.Errorf("%d likes of %d", last.Likes(), sum)
 	}
 	if err := c.moment(check); err != errEnded {
