@@ -17,6 +17,9 @@ WAY = re.compile(r"^## (?:One|A writer's) like, .*?(?=^## )", re.M | re.S)
 STEP = re.compile(r"^\d+\. .*$", re.M)
 PLACED = re.compile(r"`([\w:]+)` \((?:`(\w+)`: )?([\w./]+\.(?:rt|c|h))\)")
 
+# What `rt version` prints, or a part with its hash, in backquotes.
+KIT = re.compile(r"`([^`\n]*\b[0-9a-f]{16}\b[^`\n]*)`")
+
 # How many names of definitions stand in several modules, at most.
 SHARED = 98
 
@@ -114,6 +117,15 @@ def astray():
                 yield f"docs/ARCHITECTURE.md: there is no {path}"
             elif not re.search(definition, pages.text_of(path), re.M):
                 yield f"docs/ARCHITECTURE.md: {path} doesn't define {name}"
+
+
+def of_other_kits(named):
+    """What these pages say that `rt version` prints, and it doesn't."""
+    printed = runs.run(["rt", "version"], "/").out.decode()
+    for page in named:
+        for said in sorted(set(KIT.findall(pages.text_of(page)))):
+            if said not in printed:
+                yield f"{page}: rt version prints {printed.strip()!r}, and not {said!r}"
 
 
 def shared():
