@@ -24,12 +24,11 @@ use Rattle.like_promises.specs.RunFault as on_threads
 use Rattle.like_promises.specs.declared.run_fault.RunFault.{RunFault}
 use Rattle.like_promises.specs.declared.run_fault.RunFault.TheVariants as threads
 use Rattle.like_requests.specs.declared.script.Turned.{Turned}
-use Rattle.like_command.specs.declared.options.Options.{Options}
 use Rattle.like_replies.specs.Summary.{requests_in}
 use Rattle.like_files.specs.Faults.{IsBeforeOutput, fault_of, fault_of_replay, fault_of_run}
-use Rattle.like_files.specs.Inputs.{GivesLists, GivesPages, Inputs, RefusesLists, RefusesPlans, setup_of}
-use Rattle.like_files.specs.Replay.{GivesAll, IsReplayFilesFault, IsReplayListsFault}
-use Rattle.like_files.specs.Run.{IsRunFilesFault, IsRunListsFault}
+use Rattle.like_files.specs.Inputs.{GivesPages, GivesScript, RefusesLists, RefusesPlans}
+use Rattle.like_files.specs.Replay.{IsReplayListsFault, IsReplayScriptFault}
+use Rattle.like_files.specs.Run.{IsRunListsFault}
 use Rattle.like_files.specs.declared.fault.DriverFault.{DriverFault}
 use Rattle.like_files.specs.declared.fault.DriverFault.TheVariants.{Pages, Requests, Script, Settings, Start, Unfinished, Write, Memory}
 
@@ -75,8 +74,7 @@ pub lists-refused : (file : Option (List ℕ)) (files : List (Option (List ℕ))
     → RefusesPlans pages files fault
     → RefusesLists file files fault
 lists-refused file files pages (Pages fault) given refused = absurd refused
-lists-refused file files pages (Requests submitter fault) given refused =
-    record { pages = pages; pages_given = given; refused = refused }
+lists-refused file files pages (Requests submitter fault) given refused = (pages, given, refused)
 lists-refused file files pages (Script fault) given refused = absurd refused
 lists-refused file files pages (Settings fault) given refused = absurd refused
 lists-refused file files pages Start given refused = absurd refused
@@ -113,54 +111,16 @@ module _ (setup : Setup) (plans : List (List Request)) where
   run-unwritten write.Write within = within
   run-unwritten write.Memory within = within
 
-module _ (options : Options) (inputs : Inputs) where
-  -- the files gave no values
-  pub replay-unread : (fault : DriverFault) → RefusesLists inputs.pages inputs.requests fault
-      → IsReplayFilesFault options inputs fault
-  replay-unread (Pages fault) refused = refused
-  replay-unread (Requests submitter fault) refused = refused
-  replay-unread (Script fault) refused = absurd refused
-  replay-unread (Settings fault) refused = absurd refused
-  replay-unread Start refused = absurd refused
-  replay-unread Unfinished refused = absurd refused
-  replay-unread Write refused = absurd refused
-  replay-unread Memory refused = absurd refused
-
-  pub run-unread : (fault : DriverFault) → RefusesLists inputs.pages inputs.requests fault
-      → IsRunFilesFault options inputs fault
-  run-unread (Pages fault) refused = refused
-  run-unread (Requests submitter fault) refused = refused
-  run-unread (Script fault) refused = absurd refused
-  run-unread (Settings fault) refused = absurd refused
-  run-unread Start refused = absurd refused
-  run-unread Unfinished refused = absurd refused
-  run-unread Write refused = absurd refused
-  run-unread Memory refused = absurd refused
-
-  module _ (pages : List Page) (plans : List (List Request)) where
-    -- their values gave no report
-    pub replay-fault : (script : List Turned) (given : GivesAll inputs pages plans script) (fault : DriverFault)
-        → IsReplayListsFault (setup_of options pages) plans script fault → IsReplayFilesFault options inputs fault
-    replay-fault script given (Pages fault) refused = absurd refused
-    replay-fault script given (Requests submitter fault) refused = absurd refused
-    replay-fault script given (Script fault) refused = absurd refused
-    replay-fault script given (Settings fault) refused =
-        record { pages = pages; plans = plans; script = script; given = given; refused = refused }
-    replay-fault script given Start refused = absurd refused
-    replay-fault script given Unfinished refused =
-        record { pages = pages; plans = plans; script = script; given = given; refused = refused }
-    replay-fault script given Write fits =
-        record { pages = pages; plans = plans; script = script; given = given; fits = fits }
-    replay-fault script given Memory fits =
-        record { pages = pages; plans = plans; script = script; given = given; fits = fits }
-
-    pub run-fault : (given : GivesLists inputs.pages inputs.requests pages plans) (fault : DriverFault)
-        → IsRunListsFault (setup_of options pages) plans fault → IsRunFilesFault options inputs fault
-    run-fault given (Pages fault) refused = absurd refused
-    run-fault given (Requests submitter fault) refused = absurd refused
-    run-fault given (Script fault) refused = absurd refused
-    run-fault given (Settings fault) refused = record { pages = pages; plans = plans; given = given; refused = refused }
-    run-fault given Start refused = record { pages = pages; plans = plans; given = given; refused = refused }
-    run-fault given Unfinished refused = absurd refused
-    run-fault given Write within = record { pages = pages; plans = plans; given = given; within = within }
-    run-fault given Memory within = record { pages = pages; plans = plans; given = given; within = within }
+-- the replay of a script file's entries gave no report
+pub replay-fault : (source : Option (Option (List ℕ))) (setup : Setup) (plans : List (List Request))
+    (script : List Turned) (fault : DriverFault)
+    → GivesScript source script
+    → IsReplayListsFault setup plans script fault → IsReplayScriptFault source setup plans fault
+replay-fault source setup plans script (Pages fault) given refused = absurd refused
+replay-fault source setup plans script (Requests submitter fault) given refused = absurd refused
+replay-fault source setup plans script (Script fault) given refused = absurd refused
+replay-fault source setup plans script (Settings fault) given refused = (script, given, refused)
+replay-fault source setup plans script Start given refused = absurd refused
+replay-fault source setup plans script Unfinished given refused = (script, given, refused)
+replay-fault source setup plans script Write given fits = (script, given, fits)
+replay-fault source setup plans script Memory given fits = (script, given, fits)

@@ -120,17 +120,17 @@ pub record GivesLists (file : Option (List ℕ)) (files : List (Option (List ℕ
   pub pages_given : GivesPages file pages
   pub plans_given : GivesPlans pages files plans
 
--- the request files were refused, where the pages file gives these pages
-pub record PlansRefused (file : Option (List ℕ)) (files : List (Option (List ℕ))) (fault : DriverFault) : Type 0 where
-  pub pages : List Page
-  pub pages_given : GivesPages file pages
-  pub refused : RefusesPlans pages files fault
-
 -- why a pages file and request files give no values: the first fault of the pages file, or else of the request files
 abbrev pub RefusesLists : Option (List ℕ) → List (Option (List ℕ)) → DriverFault → Type 0
 RefusesLists file files (driver.Pages fault) = RefusesPages file fault
-RefusesLists file files (driver.Requests submitter fault) = PlansRefused file files (driver.Requests submitter fault)
-RefusesLists file files fault = ⊥
+RefusesLists file files fault = (pages : List Page) × GivesPages file pages × RefusesPlans pages files fault
+
+-- this holds of the settings that options ask for with the pages of the files, and of their plans
+pub record OfFiles (options : Options) (inputs : Inputs) (Holds : Setup → List (List Request) → Type 0) : Type 0 where
+  pub pages : List Page
+  pub plans : List (List Request)
+  pub given : GivesLists inputs.pages inputs.requests pages plans
+  pub holds : Holds (setup_of options pages) plans
 
 -- the text of a right report was written, with right places if they are asked for, else with none; its notice is its
 -- summary if one is asked for, else its refused requests
@@ -149,8 +149,5 @@ pub record BeginsReport (options : Options) (setup : Setup) (plans : List (List 
   pub begun : HasBegun old new (text_of (extent_of options) setup.pages report)
 
 -- a front of a report of these files was written
-pub record BeginsReportOf (options : Options) (inputs : Inputs) (old new : Option (List ℕ)) : Type 0 where
-  pub pages : List Page
-  pub plans : List (List Request)
-  pub given : GivesLists inputs.pages inputs.requests pages plans
-  pub begun : BeginsReport options (setup_of options pages) plans old new
+abbrev pub BeginsReportOf : Options → Inputs → Option (List ℕ) → Option (List ℕ) → Type 0
+BeginsReportOf options inputs old new = OfFiles options inputs (λ setup plans. BeginsReport options setup plans old new)

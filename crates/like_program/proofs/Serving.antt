@@ -1,14 +1,14 @@
 -- What the program has done for its words, by what its parts answered.
 use Rattle.std.proofs.Common.{◌≡◌, ◌==◌, ℕ, List, [], ◌∷◌, inl, inr, Option, Result, Ok, Err, IfErr, IfOk, ap, false, length, map, refl, true≢false}
-use Rattle.std.specs.Prelude.{◌⊎◌, MatchResult, OnErr}
+use Rattle.std.specs.Prelude.{MatchResult, OnErr}
 use Rattle.like_command.specs.Asked.{Asks, Words}
 use Rattle.like_files.specs.Faults.{IsBeforeOutput}
 use Rattle.like_files.specs.Inputs.{BeginsReportOf}
 use Rattle.like_files.specs.Outcome.{LeavesFront, TellsWrite}
+use Rattle.like_files.specs.Replay.{IsReplayFilesFault}
 use Rattle.like_program.specs.Fault.{of_files}
-use Rattle.like_program.specs.Program.{BeginsAtMost, BeginsSome, HasDone, HasServed, IsExample, IsExampleFault, IsServeFault, IsWordsFault, TellsProgram, example_inputs}
+use Rattle.like_program.specs.Program.{BeginsAtMost, BeginsSome, HasDone, HasServed, IsAskedFault, IsExample, IsExampleFault, IsServeFault, IsWordsFault, TellsProgram, example_inputs}
 use Rattle.like_command.specs.declared.asked.Asked.{Asked}
-use Rattle.like_command.specs.declared.asked.Asked.TheVariants.{Run, Replay}
 use Rattle.like_command.specs.declared.options.Options.{Options}
 use Rattle.like_replies.specs.declared.notice.Notice.{Notice}
 use Rattle.like_files.specs.declared.fault.DriverFault.{DriverFault}
@@ -67,17 +67,18 @@ begins-at_most Begun held (Err fault) old new (inr begun) same = (inr begun, λ 
 pub files-not_served : {A : Type 0} (words : Words) (old new : Option (List ℕ)) (options : Options)
     (done : Result A DriverFault)
     → ¬ (words ≡ [])
-    → Asks words (Run options) ⊎ Asks words (Replay options)
+    → IfErr done (IsAskedFault words options)
     → IfErr done (BeginsAtMost (BeginsSome options) old new)
     → IfErr (of_files options done) (IsServeFault words old new)
-files-not_served words old new options (Ok x) some asks left = tt
-files-not_served words old new options (Err fault) some asks left =
-    not_served words old new (Files options fault) some (asks, left)
+files-not_served words old new options (Ok x) some why left = tt
+files-not_served words old new options (Err fault) some why left =
+    not_served words old new (Files options fault) some (why, left)
 
 -- a fault of the example's files is why the example was not replayed
 pub files-not_replayed : {A : Type 0} (old new : Option (List ℕ)) (options : Options) (done : Result A DriverFault)
     → IsExample options
+    → IfErr done (IsReplayFilesFault options example_inputs)
     → IfErr done (BeginsAtMost (BeginsReportOf options example_inputs) old new)
     → IfErr (of_files options done) (IsExampleFault old new)
-files-not_replayed old new options (Ok x) numbers left = tt
-files-not_replayed old new options (Err fault) numbers left = (numbers, left)
+files-not_replayed old new options (Ok x) numbers why left = tt
+files-not_replayed old new options (Err fault) numbers why left = (numbers, why, left)

@@ -12,43 +12,38 @@ use Rattle.like_files.specs.Tries.{Try}
 use Rattle.like_files.specs.declared.fault.DriverFault.{DriverFault}
 use Rattle.like_files.specs.declared.opened.Opened.{Opened}
 
-module _ {R : Type 0} (left : R → Option (List ℕ)) (before after : Option (List (Try R))) where
-  -- the files that the options name were run, each opened by its name
-  pub record HasRunNamed (options : Options) (old new : Option (List ℕ)) (notice : Option Notice) : Type 0 where
+module _ {R : Type 0} (before after : Option (List (Try R))) (options : Options) where
+  -- this holds of the files that the options name, each opened by its name
+  pub record OfNamed (Holds : Opened R → Type 0) : Type 0 where
     pub opened : Opened R
     pub named : AreNamed before after options opened
-    pub run : HasRun options (inputs_in left opened) old new notice
+    pub holds : Holds opened
 
-  -- the files that the options name were replayed, each opened by its name
-  pub record HasReplayedNamed (options : Options) (old new : Option (List ℕ)) (notice : Option Notice) : Type 0 where
-    pub opened : Opened R
-    pub named : AreNamed before after options opened
-    pub replayed : HasReplayed options (inputs_in left opened) old new notice
+module _ {R : Type 0} (left : R → Option (List ℕ)) (before after : Option (List (Try R))) (options : Options) where
+  -- the files that the options name were run
+  abbrev pub HasRunNamed : Option (List ℕ) → Option (List ℕ) → Option Notice → Type 0
+  HasRunNamed old new notice =
+      OfNamed before after options (λ opened. HasRun options (inputs_in left opened) old new notice)
+
+  -- the files that the options name were replayed
+  abbrev pub HasReplayedNamed : Option (List ℕ) → Option (List ℕ) → Option Notice → Type 0
+  HasReplayedNamed old new notice =
+      OfNamed before after options (λ opened. HasReplayed options (inputs_in left opened) old new notice)
 
   -- a front of a report of these files was written
-  pub record BeginsNamed (options : Options) (old new : Option (List ℕ)) : Type 0 where
-    pub opened : Opened R
-    pub named : AreNamed before after options opened
-    pub begun : BeginsReportOf options (inputs_in left opened) old new
-
-  -- the files were opened, and their run was refused
-  pub record NamedRunRefused (options : Options) (fault : DriverFault) : Type 0 where
-    pub opened : Opened R
-    pub named : AreNamed before after options opened
-    pub refused : IsRunFilesFault options (inputs_in left opened) fault
-    pub told : TellsRead opened.pages opened.requests.items None fault
-
-  -- the files were opened, and their replay was refused
-  pub record NamedReplayRefused (options : Options) (fault : DriverFault) : Type 0 where
-    pub opened : Opened R
-    pub named : AreNamed before after options opened
-    pub refused : IsReplayFilesFault options (inputs_in left opened) fault
-    pub told : TellsRead opened.pages opened.requests.items opened.script fault
+  abbrev pub BeginsNamed : Option (List ℕ) → Option (List ℕ) → Type 0
+  BeginsNamed old new = OfNamed before after options (λ opened. BeginsReportOf options (inputs_in left opened) old new)
 
   -- why the files that the options name were not run: one was not opened, or their run was refused
-  abbrev pub IsRunNamedFault : Options → DriverFault → Type 0
-  IsRunNamedFault options fault = IsUnopened before after options fault ⊎ NamedRunRefused options fault
+  abbrev pub IsRunNamedFault : DriverFault → Type 0
+  IsRunNamedFault fault =
+      IsUnopened before after options fault
+      ⊎ OfNamed before after options (λ opened. IsRunFilesFault options (inputs_in left opened) fault
+      × TellsRead opened.pages opened.requests.items None fault)
 
   -- why the files that the options name were not replayed: one was not opened, or their replay was refused
-  abbrev pub IsReplayNamedFault : Options → DriverFault → Type 0
-  IsReplayNamedFault options fault = IsUnopened before after options fault ⊎ NamedReplayRefused options fault
+  abbrev pub IsReplayNamedFault : DriverFault → Type 0
+  IsReplayNamedFault fault =
+      IsUnopened before after options fault
+      ⊎ OfNamed before after options (λ opened. IsReplayFilesFault options (inputs_in left opened) fault
+      × TellsRead opened.pages opened.requests.items opened.script fault)

@@ -1,13 +1,13 @@
 -- What the program has done for its words, and the status with which it ends.
-use Rattle.std.specs.Prelude.{◌≡◌, ◌⊎◌, ℕ, false, true, List, [], ◌∷◌, length, Option, None, Some, codes, string_bytes}
+use Rattle.std.specs.Prelude.{◌≡◌, ◌⊎◌, ℕ, false, true, List, [], ◌∷◌, length, Option, None, Some, codes, is_some, string_bytes}
 use Rattle.std.specs.Io.KnownBytes.{Appends}
 use Rattle.like_command.specs.Asked.{Asks, AsksForHelp, IsParseFault, Words}
 use Rattle.like_files.specs.Faults.{IsBeforeOutput}
 use Rattle.like_files.specs.Inputs.{BeginsReportOf, Inputs}
 use Rattle.like_files.specs.Outcome.{TellsWrite}
 use Rattle.like_program.specs.Fault.{program_status}
-use Rattle.like_files.specs.Replay.{HasReplayed, HasReplayedSome}
-use Rattle.like_files.specs.Run.{HasRunSome}
+use Rattle.like_files.specs.Replay.{HasReplayed, IsReplayFilesFault}
+use Rattle.like_files.specs.Run.{HasRun, IsRunFilesFault}
 use Rattle.like_files.specs.StandardInput.{names_of, names_twice}
 use Rattle.like_command.specs.declared.asked.Asked.{Asked}
 use Rattle.like_command.specs.declared.asked.Asked.TheVariants.{Run, Replay, Help}
@@ -54,10 +54,19 @@ pub record HasReplayedExample (old new : Option (List ℕ)) (notice : Option Not
 abbrev pub NamesInputOnce : Options → Type 0
 NamesInputOnce options = names_twice (names_of options) ≡ false
 
+-- this holds of some files: as many request files as the options name, and a script if they name one
+pub record OfSome (options : Options) (Holds : Inputs → Type 0) : Type 0 where
+  pub inputs : Inputs
+  pub all_requests : length inputs.requests ≡ length options.requests.items
+  pub scripted : is_some inputs.script ≡ is_some options.script
+  pub holds : Holds inputs
+
 -- what was asked for was done, with this notice on its report, if there is one
 abbrev pub HasDone : Asked → Option (List ℕ) → Option (List ℕ) → Option Notice → Type 0
-HasDone (Run options) old new notice = NamesInputOnce options × HasRunSome options old new notice
-HasDone (Replay options) old new notice = NamesInputOnce options × HasReplayedSome options old new notice
+HasDone (Run options) old new notice =
+    NamesInputOnce options × OfSome options (λ inputs. HasRun options inputs old new notice)
+HasDone (Replay options) old new notice =
+    NamesInputOnce options × OfSome options (λ inputs. HasReplayed options inputs old new notice)
 HasDone (Help text) old new notice = Appends old new (string_bytes text) × (notice ≡ None)
 
 -- the program has done what its words ask for, with this notice: without any word it has replayed its example
@@ -66,11 +75,9 @@ HasServed [] old new notice = HasReplayedExample old new notice
 HasServed (word ∷ words) old new notice =
     (asked : Asked) × Asks (word ∷ words) asked × HasDone asked old new notice
 
--- a front of a report of some files was written, as many request files as the options name
-pub record BeginsSome (options : Options) (old new : Option (List ℕ)) : Type 0 where
-  pub inputs : Inputs
-  pub all_requests : length inputs.requests ≡ length options.requests.items
-  pub begun : BeginsReportOf options inputs old new
+-- a front of a report of some files was written
+abbrev pub BeginsSome : Options → Option (List ℕ) → Option (List ℕ) → Type 0
+BeginsSome options old new = OfSome options (λ inputs. BeginsReportOf options inputs old new)
 
 -- after this fault the output is as before, or this was begun; with a fault before the output it is as before
 abbrev pub BeginsAtMost :
@@ -80,15 +87,22 @@ BeginsAtMost Begun old new fault = ((new ≡ old) ⊎ Begun old new) × (IsBefor
 -- why the example was not replayed
 abbrev pub IsExampleFault : Option (List ℕ) → Option (List ℕ) → ProgramFault → Type 0
 IsExampleFault old new (program.Files options fault) =
-    IsExample options × BeginsAtMost (BeginsReportOf options example_inputs) old new fault
+    IsExample options × IsReplayFilesFault options example_inputs fault
+    × BeginsAtMost (BeginsReportOf options example_inputs) old new fault
 IsExampleFault old new program.Memory = new ≡ old
 IsExampleFault old new fault = ⊥
+
+-- the words ask for a run or a replay with these options, and that of some files ends in this fault
+abbrev pub IsAskedFault : Words → Options → DriverFault → Type 0
+IsAskedFault words options fault =
+    (Asks words (Run options) × OfSome options (λ inputs. IsRunFilesFault options inputs fault))
+    ⊎ (Asks words (Replay options) × OfSome options (λ inputs. IsReplayFilesFault options inputs fault))
 
 -- why what the words ask for was not done
 abbrev pub IsWordsFault : Words → Option (List ℕ) → Option (List ℕ) → ProgramFault → Type 0
 IsWordsFault words old new (program.Words fault) = IsParseFault words fault × (new ≡ old)
 IsWordsFault words old new (program.Files options fault) =
-    (Asks words (Run options) ⊎ Asks words (Replay options)) × BeginsAtMost (BeginsSome options) old new fault
+    IsAskedFault words options fault × BeginsAtMost (BeginsSome options) old new fault
 IsWordsFault words old new program.Output = AsksForHelp words
 IsWordsFault words old new program.Inputs =
     (options : Options) × (Asks words (Run options) ⊎ Asks words (Replay options))

@@ -7,8 +7,4 @@ use Rattle.like_records.specs.declared.fault.RecordsFault.TheVariants as fault
 -- the fault for an error: the reader underneath failed, or else memory ran out
 abbrev pub fault_of : ErrorKind → RecordsFault
 fault_of (kind.Io e) = fault.Read
-fault_of (kind.Utf8 pos err) = fault.Memory
-fault_of (kind.UnequalLengths pos expected len) = fault.Memory
-fault_of (kind.Serialize text) = fault.Memory
-fault_of (kind.Deserialize pos err) = fault.Memory
-fault_of kind.OutOfMemory = fault.Memory
+fault_of error = fault.Memory

@@ -50,9 +50,8 @@ records_left (progress.Failed why) state unread = None
 
 -- the fault with which a reading has stopped, by how far it is
 abbrev pub stopped_by : Progress → Option RecordsFault
-stopped_by progress.Open = None
-stopped_by progress.Ended = None
 stopped_by (progress.Failed why) = Some why
+stopped_by progress = None
 
 -- a reader that hands out each record as it is in the text, the first one too, with any number of fields
 pub record GivesEach {R : Type 0} (reader : Reader R) : Type 0 where

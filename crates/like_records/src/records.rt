@@ -1,5 +1,6 @@
 // The records of a CSV file, one at a time.
-ghost use Rattle.std.specs.Prelude.{◌≡◌, ◌<◌, ◌↔◌, [], None, IsTrue, Some, length, map, option_map, slice_get};
+ghost use Rattle.std.specs.Prelude.{◌≡◌, ◌<◌, ◌↔◌, [], Err, None, IsTrue, Some, length, map, option_map, slice_get};
+ghost use Rattle.std.specs.Option.{ForSome};
 ghost use Rattle.like_records.specs.Reading.{NextRecord, records_of};
 
 use crate::fault::RecordsFault;
@@ -68,7 +69,8 @@ impl<R: Read> Records<R> {
     /// Reads the next record, and says whether there was one. At the end there is none from then
     /// on, and after a fault there is the same fault from then on.
     pub fn read_next(&mut self) -> Result<bool, RecordsFault>
-        ensures { NextRecord self.old result self.new }
+        ensures next { NextRecord self.old result self.new }
+        ensures stays { ForSome self.old.stopped (λ fault. result ≡ Err fault) }
     {
         match self.progress {
             Progress::Open => {}

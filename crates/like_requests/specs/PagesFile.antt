@@ -4,7 +4,7 @@ use Rattle.like_records.specs.Decimal.{IsDecimal, decimal_value}
 use Rattle.like_records.specs.declared.fault.RecordsFault.{RecordsFault}
 use Rattle.like_records.specs.declared.fault.RecordsFault.TheVariants as records
 use Rattle.like_requests.specs.Pages.{IsName, Page}
-use Rattle.like_records.specs.Rows.{IsFirstFailed, PassAll, Record, field}
+use Rattle.like_records.specs.Rows.{Behind, IsFirstFailed, PassAll, Record, field}
 use Rattle.like_limits.specs.Limits.{max_count, max_pages}
 use Rattle.like_requests.specs.declared.pages_file.PagesFault.{PagesFault}
 use Rattle.like_requests.specs.declared.pages_file.PagesFault.TheVariants.{Read, Header, Fields, Name, Duplicate, Count, Split, TooMany, Empty, Memory}
@@ -28,10 +28,7 @@ AsksPage earlier r (Duplicate row) = ¬ Contains earlier (field r 0)
 AsksPage earlier r (Count row) = IsDecimal 19 max_count (field r 1)
 AsksPage earlier r (Split row) = IsSplitMark (field r 2)
 AsksPage earlier r TooMany = length earlier < max_pages
-AsksPage earlier r Read = ⊤
-AsksPage earlier r Header = ⊤
-AsksPage earlier r Empty = ⊤
-AsksPage earlier r Memory = ⊤
+AsksPage earlier r fault = ⊤
 
 -- what the test with this fault asks of a record after these earlier ones
 abbrev pub AsksPageRecord : List Record → Record → PagesFault → Type 0
@@ -52,8 +49,7 @@ IsPagesFault rows Read = ⊤
 IsPagesFault rows Memory = ⊤
 IsPagesFault rows Header = (body : List Record) → rows ≢ pages_header ∷ body
 IsPagesFault rows Empty = rows ≡ pages_header ∷ []
-IsPagesFault rows fault =
-    (body : List Record) × (rows ≡ pages_header ∷ body) × IsFirstFailed AsksPageRecord page_tests body fault
+IsPagesFault rows fault = Behind pages_header (λ body. IsFirstFailed AsksPageRecord page_tests body fault) rows
 
 -- the pages of a file with these records
 abbrev pub IsPagesFile : List Record → List Page → Type 0

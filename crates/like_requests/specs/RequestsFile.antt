@@ -4,7 +4,7 @@ use Rattle.like_records.specs.Decimal.{IsDecimal, decimal_value}
 use Rattle.like_records.specs.declared.fault.RecordsFault.{RecordsFault}
 use Rattle.like_records.specs.declared.fault.RecordsFault.TheVariants as records
 use Rattle.like_requests.specs.Pages.{Page, number_of}
-use Rattle.like_records.specs.Rows.{IsFirstFailed, PassAll, Record, field}
+use Rattle.like_records.specs.Rows.{Behind, IsFirstFailed, PassAll, Record, field}
 use Rattle.like_requests.specs.declared.request.Op.{Op}
 use Rattle.like_requests.specs.declared.request.Op.TheVariants.{Like, Look}
 use Rattle.like_requests.specs.declared.request.PageRef.{PageRef}
@@ -44,9 +44,7 @@ AsksRequest earlier r (fault.Fields row) = length r ≡ 3
 AsksRequest earlier r (fault.Op row) = IsOp (field r 0)
 AsksRequest earlier r (fault.User row) = IsDecimal 10 max_user (field r 1)
 AsksRequest earlier r fault.TooMany = earlier < max_requests
-AsksRequest earlier r fault.Read = ⊤
-AsksRequest earlier r fault.Header = ⊤
-AsksRequest earlier r fault.Memory = ⊤
+AsksRequest earlier r why = ⊤
 
 -- what the test with this fault asks of a record after these earlier ones
 abbrev pub AsksRequestRecord : List Record → Record → RequestsFault → Type 0
@@ -66,8 +64,7 @@ abbrev pub IsRequestsFault : List Record → RequestsFault → Type 0
 IsRequestsFault rows fault.Read = ⊤
 IsRequestsFault rows fault.Memory = ⊤
 IsRequestsFault rows fault.Header = (body : List Record) → rows ≢ requests_header ∷ body
-IsRequestsFault rows why =
-    (body : List Record) × (rows ≡ requests_header ∷ body) × IsFirstFailed AsksRequestRecord request_tests body why
+IsRequestsFault rows why = Behind requests_header (λ body. IsFirstFailed AsksRequestRecord request_tests body why) rows
 
 -- the requests of a file with these records, where these are the pages
 abbrev pub IsRequestsFile : List Page → List Record → List Request → Type 0

@@ -1,9 +1,9 @@
 -- What a script file says: the records that CSV gives of it, and the entries or the fault.
-use Rattle.std.specs.Prelude.{◌≡◌, ◌≢◌, ◌⊎◌, ◌<◌, ℕ, zero, suc, List, [], ◌∷◌, length, map, bytes_eq, codes, if◌then◌else◌, ⊤}
+use Rattle.std.specs.Prelude.{◌≡◌, ◌≢◌, ◌⊎◌, ◌<◌, ℕ, zero, List, [], ◌∷◌, length, map, bytes_eq, codes, if◌then◌else◌, ⊤}
 use Rattle.like_records.specs.Decimal.{IsDecimal, decimal_value}
 use Rattle.like_records.specs.declared.fault.RecordsFault.{RecordsFault}
 use Rattle.like_records.specs.declared.fault.RecordsFault.TheVariants as records
-use Rattle.like_records.specs.Rows.{IsFirstFailed, PassAll, Record, field}
+use Rattle.like_records.specs.Rows.{Behind, IsFirstFailed, PassAll, Record, field}
 use Rattle.like_limits.specs.Limits.{max_entries, max_index}
 use Rattle.like_requests.specs.declared.script_file.ScriptFault.{ScriptFault}
 use Rattle.like_requests.specs.declared.script_file.ScriptFault.TheVariants as fault
@@ -42,8 +42,7 @@ turned_of r = named (field r 0) (field r 1)
 abbrev pub AsksEntry : ℕ → Record → ScriptFault → Type 0
 AsksEntry earlier r (fault.Line row) = IsEntry r
 AsksEntry earlier r fault.TooMany = earlier < max_entries
-AsksEntry earlier r fault.Read = ⊤
-AsksEntry earlier r fault.Memory = ⊤
+AsksEntry earlier r why = ⊤
 
 -- what the test with this fault asks of a record after these earlier ones
 abbrev pub AsksEntryRecord : List Record → Record → ScriptFault → Type 0
@@ -58,18 +57,12 @@ abbrev pub fault_of : RecordsFault → ScriptFault
 fault_of records.Read = fault.Read
 fault_of records.Memory = fault.Memory
 
--- a record behind the header is why a file with these records has no entries
-abbrev pub StopsBehindHeader : List Record → ScriptFault → Type 0
-StopsBehindHeader rows why =
-    (body : List Record) × (rows ≡ script_header ∷ body) × IsFirstFailed AsksEntryRecord entry_tests body why
-
 -- why a file with these records has no entries
 abbrev pub IsScriptFault : List Record → ScriptFault → Type 0
 IsScriptFault rows fault.Read = ⊤
 IsScriptFault rows fault.Memory = ⊤
 IsScriptFault rows (fault.Line zero) = (body : List Record) → rows ≢ script_header ∷ body
-IsScriptFault rows (fault.Line (suc row)) = StopsBehindHeader rows (fault.Line (suc row))
-IsScriptFault rows fault.TooMany = StopsBehindHeader rows fault.TooMany
+IsScriptFault rows why = Behind script_header (λ body. IsFirstFailed AsksEntryRecord entry_tests body why) rows
 
 -- the entries of a file with these records
 abbrev pub IsScriptFile : List Record → List Turned → Type 0

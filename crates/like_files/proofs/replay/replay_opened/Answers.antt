@@ -1,14 +1,14 @@
-use Rattle.std.proofs.Common.{refl, map}
+use Rattle.std.proofs.Common.{refl, map, inl}
 use Rattle.std.proofs.lemmas.Result.{err_from_is_err_and}
 use Rattle.like_files.specs.Inputs.{inputs_in}
-use Rattle.like_files.proofs.Ended.{lists-refused, replay-unread}
+use Rattle.like_files.proofs.Ended.{lists-refused}
 use Rattle.like_files.proofs.FailedReads.{plans-told}
 use Rattle.like_files.proofs.replay.replay_opened.Goals as goal
 
 pub returns-in_err-pages-clause-replayed : goal.returns-in_err-pages-clause-replayed
 returns-in_err-pages-clause-replayed g c =
     let p = err_from_is_err_and c.from_residual.result c.from_residual.ensures.1 in
-    rw (p.1, p.2) (record { done = tt; fault = c.in_err-pages.ensures.file; untouched = λ before. refl })
+    rw (p.1, p.2) (record { done = tt; fault = inl c.in_err-pages.ensures.file; untouched = λ before. refl })
 
 pub returns-in_err-pages-clause-read : goal.returns-in_err-pages-clause-read
 returns-in_err-pages-clause-read g c =
@@ -20,8 +20,7 @@ returns-in_err-plans-clause-replayed g c =
     let p = err_from_is_err_and c.from_residual-in_err-plans.result c.from_residual-in_err-plans.ensures.1 in
     rw (p.1, p.2) (record {
       done = tt;
-      fault = replay-unread c.args.options.now (inputs_in g.R.Read.remaining c.args.files) c.in_err-plans.field-0.0
-          (lists-refused (g.R.Read.remaining c.args.files.pages)
+      fault = inl (lists-refused (g.R.Read.remaining c.args.files.pages)
           (map g.R.Read.remaining c.args.files.requests.items) c.in_ok-pages.pages c.in_err-plans.field-0.0
           c.in_ok-pages.ensures.file c.in_err-plans.ensures.plans);
       untouched = λ before. refl;

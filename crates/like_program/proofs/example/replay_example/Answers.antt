@@ -25,9 +25,11 @@ returns-clause-fault g c =
     let done = c.replay_opened-done.result in
     let old = c.args.out.now in
     let new = c.replay_opened-done.new.out in
+    let why = rw (c.as_bytes-pages.ensures.value, c.in_ok-requests.ensures)
+    at c.replay_opened-done.ensures.replayed.fault in
     let begun = rw (c.as_bytes-pages.ensures.value, c.in_ok-requests.ensures) at c.replay_opened-done.ensures.begun in
     rw c.with_options.ensures
-    (files-not_replayed (g.W.Output.held old) (g.W.Output.held new) options done c.in_ok-options.ensures.numbers
+    (files-not_replayed (g.W.Output.held old) (g.W.Output.held new) options done c.in_ok-options.ensures.numbers why
     (begins-at_most (BeginsReportOf options example_inputs) g.W.Output.held done old new begun
     c.replay_opened-done.ensures.replayed.untouched))
 

@@ -12,7 +12,7 @@ pub returns-clause-replayed : goal.returns-clause-replayed
 returns-clause-replayed g c = record {
   done = IfOk-weaker
       c.replay_opened.result _ _
-      (λ notice done. record { opened = c.in_ok-files.files; named = c.in_ok-files.ensures; replayed = done })
+      (λ notice done. record { opened = c.in_ok-files.files; named = c.in_ok-files.ensures; holds = done })
       c.replay_opened.ensures.replayed.done;
   fault = replay-refused
       g.O.Reader.Read.remaining (g.O.Opener.tries c.args.opener.now) (g.O.Opener.tries c.open_files.new.opener)

@@ -12,7 +12,7 @@ pub returns-clause-run : goal.returns-clause-run
 returns-clause-run g c = record {
   done = IfOk-weaker
       c.run_opened.result _ _
-      (λ notice done. record { opened = c.in_ok-files.files; named = c.in_ok-files.ensures; run = done })
+      (λ notice done. record { opened = c.in_ok-files.files; named = c.in_ok-files.ensures; holds = done })
       c.run_opened.ensures.run.done;
   fault = run-refused
       g.O.Reader.Read.remaining (g.O.Opener.tries c.args.opener.now) (g.O.Opener.tries c.open_files.new.opener)

@@ -1,10 +1,10 @@
 use Rattle.std.proofs.Common.{None, inl, inr, map, refl, string_bytes, ◌∙◌, sym}
-use Rattle.std.proofs.lemmas.Result.{IfOk-weaker, err_from_is_err_and}
+use Rattle.std.proofs.lemmas.Result.{IfErr-weaker, IfOk-weaker, err_from_is_err_and}
 use Rattle.like_command.specs.Asked.{Words}
 use Rattle.like_command.specs.declared.asked.Asked.TheVariants.{Run, Replay, Help}
 use Rattle.like_program.specs.declared.fault.ProgramFault.TheVariants as program
 use Rattle.like_program.specs.Program.{BeginsSome}
-use Rattle.like_program.proofs.NamedFiles.{some-begun, some-replay, some-run}
+use Rattle.like_program.proofs.NamedFiles.{some-begun, some-replay, some-replay-fault, some-run, some-run-fault}
 use Rattle.like_program.proofs.Serving.{begins-at_most, files-not_served, not_served, of_files-ok, served, some-words}
 use Rattle.like_program.proofs.program.serve.Goals as goal
 
@@ -46,7 +46,9 @@ returns-in_ok-begin-in-Run-clause-fault g c =
     let old = c.args.out.now in
     let new = c.run_named-done.new.out in
     rw c.with_options.ensures
-    (files-not_served words _ _ options done some (inl asks)
+    (files-not_served words _ _ options done some
+    (IfErr-weaker done _ _ (λ fault why. inl (asks, some-run-fault _ _ _ options fault asks.1.script why))
+    c.run_named-done.ensures.run.fault)
     (begins-at_most (BeginsSome options) g.W.Output.held done old new
     (some-begun _ _ _ options g.W.Output.held old new done c.run_named-done.ensures.begun)
     c.run_named-done.ensures.run.untouched))
@@ -81,7 +83,9 @@ returns-in_ok-begin-in-Replay-clause-fault g c =
     let old = c.args.out.now in
     let new = c.replay_named-done.new.out in
     rw c.with_options-in-Replay.ensures
-    (files-not_served words _ _ options done some (inr asks)
+    (files-not_served words _ _ options done some
+    (IfErr-weaker done _ _ (λ fault why. inr (asks, some-replay-fault _ _ _ options fault why))
+    c.replay_named-done.ensures.replayed.fault)
     (begins-at_most (BeginsSome options) g.W.Output.held done old new
     (some-begun _ _ _ options g.W.Output.held old new done c.replay_named-done.ensures.begun)
     c.replay_named-done.ensures.replayed.untouched))

@@ -21,7 +21,7 @@ of_rows fault_of Made Failed header first headless rows body (Err fault) all sam
 pub returns-in-Ok-clause-file : goal.returns-in-Ok-clause-file
 returns-in-Ok-clause-file g c = λ rows known.
     let next : TakesRecord c.args.records.now c.read_next.new.self × (c.read_next.new.self.stopped ≡ None) =
-    rw c.if-not-found.false at c.in-Ok.ensures in
+    rw c.if-not-found.false at c.in-Ok.ensures.next in
     let (rest, first, more) = next.0 rows known in
     of_rows g.K.FileKind.fault_of
     (λ made body. PassAll g.K.FileKind.asks g.K.FileKind.tests body × g.K.FileKind.holds c.args.kind.now made body)
@@ -36,7 +36,7 @@ returns-in-Ok-clause-ends g c =
 
 pub returns-clause-ends : goal.returns-clause-ends
 returns-clause-ends g c =
-    let stopped = ap (λ (r : Reading). r.stopped) c.in-Err.ensures in
+    let stopped = ap (λ (r : Reading). r.stopped) c.in-Err.ensures.next in
     rw c.fault.ensures
     (inr (ends-told g.K.FileKind.fault_of (c.read_next.new.self.stopped ≡ Some told.Read)
     (FailsSome g.K.FileKind.asks g.K.FileKind.tests) c.in-Err.why (λ is. stopped ∙ ap Some is)))

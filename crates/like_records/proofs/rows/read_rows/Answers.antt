@@ -10,7 +10,7 @@ pub returns-in_err-take-in-Ok-true-clause-rows : goal.returns-in_err-take-in-Ok-
 returns-in_err-take-in-Ok-true-clause-rows g c = λ body known.
     let so_far = c.loop-row.invariant in
     let next : TakesRecord c.loop-row.records c.read_next.new.self × (c.read_next.new.self.stopped ≡ None) =
-    rw c.in-Ok-true.field-0-test at c.in-Ok-true.ensures in
+    rw c.in-Ok-true.field-0-test at c.in-Ok-true.ensures.next in
     let p = err_from_is_err_and c.from_residual.result c.from_residual.ensures.1 in
     let stands = c.in_err-take-in-Ok-true.ensures.row so_far.done so_far.made so_far.count in
     rw (p.1, p.2) (⊎_elim (λ same. inl (told.Memory, same))
@@ -33,7 +33,7 @@ pub loop-row-preserved : goal.loop-row-preserved
 loop-row-preserved g c =
     let so_far = c.loop-row.invariant in
     let next : TakesRecord c.loop-row.records c.read_next.new.self × (c.read_next.new.self.stopped ≡ None) =
-    rw c.in-Ok-true.field-0-test at c.in-Ok-true.ensures in
+    rw c.in-Ok-true.field-0-test at c.in-Ok-true.ensures.next in
     let passed = c.in_ok-take-in-Ok-true.ensures.row so_far.done so_far.made so_far.count in
     record {
       done = so_far.done ++ c.read_next.new.self.fields ∷ [];
