@@ -96,10 +96,21 @@ def limit_self(limits, user):
         resource.setrlimit(limit, (most, most))
 
 
+def kill_all(group):
+    """Kills a process and all that it started, unless they have ended."""
+    with contextlib.suppress(ProcessLookupError):
+        os.killpg(group, signal.SIGKILL)
+
+
 def run(words, folder, limits=(), user=None, out=None, errors=None, seconds=60, **how):
     """Runs a program in a folder, with limits on what it may have and as a user, and tells how it ended.
 
     What it writes goes to `out` and `errors`, where they are given, and else is kept."""
+
+    def begin():
+        os.setpgrp()  # so that all that it starts can be killed
+        limit_self(limits, user)
+
     with tempfile.TemporaryFile() as written, tempfile.TemporaryFile() as lines:
         began = time.monotonic()
         child = subprocess.Popen(
@@ -107,15 +118,15 @@ def run(words, folder, limits=(), user=None, out=None, errors=None, seconds=60, 
             cwd=folder,
             stdout=written if out is None else out,
             stderr=lines if errors is None else errors,
-            preexec_fn=lambda: limit_self(limits, user),
+            preexec_fn=begin,
             **{"stdin": subprocess.DEVNULL, **how},
         )
-        timer = threading.Timer(seconds, child.kill)
+        timer = threading.Timer(seconds, kill_all, (child.pid,))
         timer.start()
         try:
             _, code, used = os.wait4(child.pid, 0)
         except BaseException:
-            child.kill()
+            kill_all(child.pid)
             raise
         finally:
             hung = time.monotonic() - began >= seconds
