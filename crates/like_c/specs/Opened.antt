@@ -1,5 +1,6 @@
 -- What a service is opened with from C.
 use Rattle.std.specs.Prelude.{◌≡◌, ◌==◌, if◌then◌else◌, ℕ, List, [], length, map, reverse, IsSome, Option, Some, None, vec_capacity}
+use Rattle.std.specs.Option.{is_some}
 use Rattle.like_live.specs.declared.opening.Opening.{Opening}
 use Rattle.like_live.specs.Opening.{Asking, asking}
 use Rattle.like_live.specs.Service.{AreOpened}
@@ -37,5 +38,6 @@ pub record IsOpenedAs (asked : Asking) (it : Opened) : Type 0 where
   pub asks : asking opening ≡ asked
   pub opened : AreOpened opening it.driver (reverse (map seat_in it.seats.items))
   pub told : it.driver.splits.told ≡ []
+  pub finds : it.driver.splits.finds ≡ is_some opening.hot
   pub room : vec_capacity it.back ≡ length it.seats.items
   pub phase : IsSome it.phase

@@ -2,6 +2,7 @@
 use Rattle.std.specs.Arc.{arc_value}
 use Rattle.std.specs.Global.{Global}
 use Rattle.std.specs.Prelude.{◌≡◌, ◌≢◌, ◌⊎◌, ℕ, ◌+◌, false, length, replicate, List, [], ◌∷◌, IfSome, IsSome, Option, Some, None}
+use Rattle.std.specs.Option.{is_some}
 use Rattle.std_alloc.specs.declared.boxed.Box.{Box}
 use Rattle.told_lock.specs.Rights.{first_of, log_of, told_of}
 use Rattle.like_live.specs.declared.open_error.OpenError.{OpenError}
@@ -26,13 +27,14 @@ use Rattle.like_c.specs.Status as status
 abbrev pub shared_hub : BoxedShared → Hub
 shared_hub b = arc_value b.hub
 
--- a service was opened as is asked for; no page was proposed; no client and no card is out, and none has told anything;
--- and its phase is there
+-- a service was opened as is asked for; no page was proposed, and its driver finds hot pages only if some are asked for;
+-- no client and no card is out, and none has told anything; and its phase is there
 pub record IsSharedAs (asked : Asking) (it : BoxedShared) : Type 0 where
   pub opening : Opening
   pub asks : asking opening ≡ asked
   pub opened : AreOpened opening (first_driver (shared_hub it).service) (first_seats (shared_hub it).service)
   pub proposed : (first_driver (shared_hub it).service).splits.told ≡ []
+  pub finds : (first_driver (shared_hub it).service).splits.finds ≡ is_some opening.hot
   pub unused : IsUnused (first_of (shared_hub it).desk)
   pub out : it.cards.out ≡ 0
   pub told : told_of it.cards ≡ []

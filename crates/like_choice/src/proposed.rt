@@ -1,4 +1,4 @@
-ghost use Rattle.std.specs.Prelude.{◌≡◌, [], take};
+ghost use Rattle.std.specs.Prelude.{◌≡◌, [], false, take};
 ghost use Rattle.like_limits.specs.Limits.{hot_pages};
 
 use crate::choice::Choice;
@@ -45,6 +45,8 @@ impl Proposed {
 impl Choice for Proposed {
     ghost told = { λ p. p };
 
+    ghost finds = { λ _. false };
+
     fn propose(&mut self, _slots: &Slots, proposed: &mut Proposal)
         ensures proposes { proposed.new ≡ self.old }
         ensures keeps { self.new ≡ self.old }
@@ -55,6 +57,8 @@ impl Choice for Proposed {
 
 impl Choice for NoProposal {
     ghost told = { λ _. [] };
+
+    ghost finds = { λ _. false };
 
     fn propose(&mut self, _slots: &Slots, proposed: &mut Proposal)
         ensures { proposed.new ≡ [] }

@@ -27,7 +27,7 @@ use std::marker::Model;
 ///
 /// Each seat stores about one in 256 of its requests. At each choice the driver reads what is new, and proposes the
 /// pages with the most likes of late, but for those with more looks than likes. All its memory is taken when it is
-/// made. Contracts see it as the number of seats.
+/// made. Contracts see it as the number of seats and `hot`.
 #[derive(Drop)]
 pub struct Samples {
     readers: Vec<Reader>,
@@ -39,9 +39,9 @@ pub struct Samples {
 impl Model for Samples {
     ghost use Rattle.std.specs.Prelude.{ℕ, vec_len};
 
-    ghost Value = { ℕ };
+    ghost Value = { ℕ × ℕ };
 
-    ghost view = { λ s. vec_len s.readers };
+    ghost view = { λ s. (vec_len s.readers, s.hot) };
 }
 
 impl Samples {
@@ -49,7 +49,7 @@ impl Samples {
     /// no page is. Earlier likes count too, a sixteenth less at each choice. A page gets a slot with one and a half
     /// times as many likes, and keeps it down to half as many.
     pub fn new(alloc: Global, seats: u32, hot: u32) -> Result<Samples, AllocError>
-        ensures { IfOk result (λ samples. samples ≡ seats) }
+        ensures { IfOk result (λ samples. samples ≡ (seats, hot)) }
     {
         let mut readers = Vec::with_capacity(alloc, seats as usize)?;
         for _ in 0..seats {
@@ -61,33 +61,35 @@ impl Samples {
             hot,
         })
     }
+}
 
-    // Reads what the seats have stored since the last choice.
-    fn read(&mut self, slots: &Slots) {
-        self.table.fade();
-        for reader in &mut self.readers {
-            reader.read(&mut self.table);
-        }
-        let bits = slots.bits();
-        for slot in 0..64u32 {
-            if has_bit(bits, slot) {
-                self.table.mark_in(slots.page(slot));
-            }
+// Reads what the seats have stored since the last choice.
+fn read(readers: &mut [Reader], table: &mut Table, slots: &Slots) {
+    table.fade();
+    for reader in readers {
+        reader.read(table);
+    }
+    let bits = slots.bits();
+    for slot in 0..64u32 {
+        if has_bit(bits, slot) {
+            table.mark_in(slots.page(slot));
         }
     }
 }
 
 impl Choice for Samples {
-    ghost use Rattle.std.specs.Prelude.{[]};
+    ghost use Rattle.std.specs.Prelude.{[], nat_lt};
 
     ghost told = { λ _. [] };
+
+    ghost finds = { λ s. nat_lt 0 s.1 };
 
     fn propose(&mut self, slots: &Slots, proposed: &mut Proposal) {
         proposed.clear();
         if self.hot == 0 {
             return;
         }
-        self.read(slots);
+        read(&mut self.readers, &mut self.table, slots);
         let judge = Judge::new(self.hot, &self.table);
         let mut best = Best::new();
         for entry in self.table.entries() {

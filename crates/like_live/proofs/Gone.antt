@@ -1,5 +1,5 @@
 -- What is known once a look showed all seats gone, and what is read then.
-use Rattle.std.proofs.Common.{◌≡◌, ◌+◌, ◌<◌, ℕ, suc, zero, Bool, true, false, List, [], ◌∷◌, length, slice_index, All, Option, Some, ap, sym, ◌∙◌, subst, arith, add-zero}
+use Rattle.std.proofs.Common.{◌≡◌, ◌+◌, ◌<◌, ℕ, suc, zero, Bool, true, false, List, [], ◌∷◌, length, slice_index, All, Option, Some, ap, sym, refl, ◌∙◌, subst, arith, add-zero}
 use Rattle.std.proofs.lemmas.List.Elements.{All-head, All-tail}
 use Rattle.std.specs.Prelude.{IfSome, IsSomeAnd}
 use Rattle.like_core.specs.Phase.{IsJoined}
@@ -17,7 +17,7 @@ use Rattle.like_core.specs.views.Shows.{FitsCoord, IsLastMoment, IsKnown}
 use Rattle.like_core.specs.views.Views.{SawAllIn, counted_coord}
 use Rattle.like_core.proofs.views.Ends.{counted_now, end_known}
 use Rattle.like_seat.specs.Lead.{LeadView, Sees, announced, counted_from, with_counts}
-use Rattle.like_live.specs.Driver.{AreLastCounts, LastCountsStay, LooksForEnd, ReadsLast, counted, ends, goes_on, is_ending, is_last, not_ended}
+use Rattle.like_live.specs.Driver.{AreLastCounts, AsksLast, LastCountsStay, LooksForEnd, ReadsLast, counted, ends, goes_on, is_ending, is_last, not_ended}
 use Rattle.like_live.proofs.Turning.{look-keeps, reads-only}
 
 -- who shows all gone shows all in
@@ -182,20 +182,20 @@ still-ended u v from counts looks =
 -- what was read before is among what was read, at the same moment
 same-counts : (v now w : LeadView) (from next : ℕ) (counts later : List ℕ) (first : LeadView)
     → v ≡ with_counts first from counts
-    → now.seat.counted ≡ v.seat.counted
+    → ((P : PageCount → Type 0) → All P now.seat.counted → All P v.seat.counted)
     → first.seat.phase ≡ w.seat.phase
     → w ≡ with_counts now next later
     → AreLastCounts w next later
     → (i j : ℕ) → i < length counts → j < length later → from + i ≡ next + j
     → slice_index counts i ≡ slice_index later j
-same-counts v now w from next counts later first is_v same phase is_w last i j below there page =
+same-counts v now w from next counts later first is_v among phase is_w last i j below there page =
     let end = last.end in
     let P : PageCount → Type 0 =
     λ r. r.phase ≡ w.seat.phase → r.count ≡ count_after w.seat.opening.counts end.moment.views r.page in
     let all : All P (counted_from now.seat next later).counted =
     subst (All P) (ap (λ (l : LeadView). l.seat.counted) is_w) (counted_now w.seat.opening w.seat end.moment end.mine) in
     let before : All P (counted_from first.seat from counts).counted =
-    subst (All P) (same ∙ ap (λ (l : LeadView). l.seat.counted) is_v) (read-of P now.seat next later all) in
+    subst (All P) (ap (λ (l : LeadView). l.seat.counted) is_v) (among P (read-of P now.seat next later all)) in
     reads-at P first.seat from counts i before below phase
     ∙ ap (λ p. count_after w.seat.opening.counts end.moment.views p) page
     ∙ sym (last.totals j there)
@@ -207,32 +207,68 @@ end-phase v w is_end (is_ending sight sees _ _ _) = (look-keeps v w sight sees).
 end-phase v w is_end (ends sight again seen sees _ _ _ sees_again _) =
     (look-keeps (announced seen) w again sees_again).phase ∙ (look-keeps v seen sight sees).phase
 
-again-read : (first v w : LeadView) (from next : ℕ) (counts others later : List ℕ) (is_done : Bool)
-    → v ≡ with_counts first from counts
-    → StillEnded v
-    → ReadsLast v next others is_done w later
-    → (is_done ≡ true) × ((i j : ℕ) → i < length counts → j < length later → from + i ≡ next + j
-    → slice_index counts i ≡ slice_index later j)
-again-read first v w from next counts others later is_done is_v saw (not_ended looks _ _) =
-    let bad : false ≡ true = (found-again v w false saw looks).is in absurd (cc)
-again-read first v w from next counts others later is_done is_v saw (counted now looks _ is_w last done) =
-    let found = found-again v now true saw looks in
-    let only = reads-only now.seat next later in
-    let phase : first.seat.phase ≡ w.seat.phase =
-    sym (ap (λ (l : LeadView). l.seat.phase) is_w ∙ only.phase ∙ end-phase v now true looks
-    ∙ ap (λ (l : LeadView). l.seat.phase) is_v ∙ (reads-only first.seat from counts).phase) in
-    (done, same-counts v now w from next counts later first is_v found.counted phase is_w last)
+-- what stays of a lead that wrote last counts, however often they are asked for
+record Stays (v w : LeadView) : Type 1 where
+  pub ended : StillEnded w
+  pub phase : w.seat.phase ≡ v.seat.phase
+  pub among : (P : PageCount → Type 0) → All P w.seat.counted → All P v.seat.counted
 
-taken-again : (u v w : LeadView) (from next : ℕ) (old others counts later : List ℕ) (is_done : Bool)
-    → ReadsLast u from old true v counts
-    → ReadsLast v next others is_done w later
+stays-once : (v w : LeadView) (from : ℕ) (old counts : List ℕ) (is_done : Bool)
+    → StillEnded v
+    → ReadsLast v from old is_done w counts
+    → Stays v w
+stays-once v w from old counts is_done saw (not_ended looks _ _) =
+    let bad : false ≡ true = (found-again v w false saw looks).is in absurd (cc)
+stays-once v w from old counts is_done saw (counted now looks _ is_w _ _) =
+    let same = (found-again v now true saw looks).counted in
+    record {
+      ended = subst StillEnded (sym is_w) (still-ended v now from counts looks);
+      phase = ap (λ (l : LeadView). l.seat.phase) is_w ∙ (reads-only now.seat from counts).phase
+          ∙ end-phase v now true looks;
+      among = λ P all. subst (All P) same
+          (read-of P now.seat from counts (subst (All P) (ap (λ (l : LeadView). l.seat.counted) is_w) all));
+    }
+
+stays-on : (v : LeadView) (n : ℕ) (w : LeadView) → StillEnded v → AsksLast v n w → Stays v w
+stays-on v zero w saw is = subst (Stays v) (sym is) (record { ended = saw; phase = refl; among = λ P all. all })
+stays-on v (suc n) w saw asks =
+    let one = stays-once v asks.0 asks.1 asks.2 asks.3 asks.4 saw asks.5 in
+    let more = stays-on asks.0 n w one.ended asks.6 in
+    record {
+      ended = more.ended;
+      phase = more.phase ∙ one.phase;
+      among = λ P all. one.among P (more.among P all);
+    }
+
+again-read : (first v w x : LeadView) (from next : ℕ) (counts others later : List ℕ) (is_done : Bool)
+    → v ≡ with_counts first from counts
+    → Stays v w
+    → ReadsLast w next others is_done x later
     → (is_done ≡ true) × ((i j : ℕ) → i < length counts → j < length later → from + i ≡ next + j
     → slice_index counts i ≡ slice_index later j)
-taken-again u v w from next old others counts later is_done (not_ended _ bad _) second = absurd (cc)
-taken-again u v w from next old others counts later is_done (counted first looks _ is_v _ _) second =
-    again-read first v w from next counts others later is_done is_v
-    (subst StillEnded (sym is_v) (still-ended u first from counts looks)) second
+again-read first v w x from next counts others later is_done is_v stays (not_ended looks _ _) =
+    let bad : false ≡ true = (found-again w x false stays.ended looks).is in absurd (cc)
+again-read first v w x from next counts others later is_done is_v stays (counted now looks _ is_x last done) =
+    let found = found-again w now true stays.ended looks in
+    let phase : first.seat.phase ≡ x.seat.phase =
+    sym (ap (λ (l : LeadView). l.seat.phase) is_x ∙ (reads-only now.seat next later).phase ∙ end-phase w now true looks
+    ∙ stays.phase ∙ ap (λ (l : LeadView). l.seat.phase) is_v ∙ (reads-only first.seat from counts).phase) in (
+      done,
+      same-counts v now x from next counts later first is_v
+          (λ P all. stays.among P (subst (All P) found.counted all)) phase is_x last,
+    )
+
+taken-again : (u v w x : LeadView) (n from next : ℕ) (old others counts later : List ℕ) (is_done : Bool)
+    → ReadsLast u from old true v counts
+    → AsksLast v n w
+    → ReadsLast w next others is_done x later
+    → (is_done ≡ true) × ((i j : ℕ) → i < length counts → j < length later → from + i ≡ next + j
+    → slice_index counts i ≡ slice_index later j)
+taken-again u v w x n from next old others counts later is_done (not_ended _ bad _) asks last = absurd (cc)
+taken-again u v w x n from next old others counts later is_done (counted first looks _ is_v _ _) asks last =
+    again-read first v w x from next counts others later is_done is_v
+    (stays-on v n w (subst StillEnded (sym is_v) (still-ended u first from counts looks)) asks) last
 
 pub last_counts_stay : LastCountsStay
-last_counts_stay u v w from next old others counts later is_done first second =
-    taken-again u.lead v.lead w.lead from next old others counts later is_done first.case second.case
+last_counts_stay u v w x n from next old others counts later is_done first asks last =
+    taken-again u.lead v.lead w.lead x.lead n from next old others counts later is_done first.case asks last.case

@@ -17,10 +17,11 @@ use Rattle.like_tables.specs.Home.{Home, IsHomeOf}
 use Rattle.like_tables.specs.StashView.{StashView}
 use Rattle.like_seat.specs.Steps.{came_back}
 use Rattle.like_live.specs.Calls as calls
-use Rattle.like_live.specs.Calls.{ComeBackCase, RetireCase, RetireWorks, retired_seat, retires, stays}
+use Rattle.like_live.specs.Calls.{ComeBackCase, RetireCase, RetireWorks, retires, stays}
 use Rattle.like_live.specs.Moves.{FindsAll, Moves, MovesBy, Works, is_gone, looked, acknowledged, waits, works, runs_joined, acknowledges, runs_split, reports}
 use Rattle.like_core.specs.Additions.{added_to}
 use Rattle.like_live.proofs.FoundSteps.{found-additions}
+use Rattle.like_live.proofs.Stepping.{retired_seat}
 
 -- the slice has a number for each page
 abbrev pub IsSized : LiveView → Type 0

@@ -88,7 +88,7 @@ split_pages_are_slots z m v s driver service at station split page there =
     (λ is. tells.0 (sym same ∙ is), λ is. same ∙ tells.1 is)
 
 pub marked_keep_slots : MarkedKeepSlots
-marked_keep_slots o factor board told v same service page there =
+marked_keep_slots o factor board told finds v same service page there =
     let marks : List ℕ = o.marks.items in
     let slots : SlotsView = v.splits.slots in
     let k : ℕ = there.0 in

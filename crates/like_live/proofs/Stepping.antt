@@ -7,7 +7,7 @@ use Rattle.like_core.specs.PageSteps.{step_adding}
 use Rattle.like_core.specs.declared.sight.Sight.{Sight}
 use Rattle.like_core.specs.declared.view.Addition.{Addition}
 use Rattle.like_core.specs.declared.worker_state.WorkerState.TheVariants.{Runs, Answered, Gone}
-use Rattle.like_core.specs.Post.{answered, has_glanced, has_read, is_split_at}
+use Rattle.like_core.specs.Post.{answered, has_glanced, has_read, is_split_at, retired}
 use Rattle.like_core.specs.declared.worker_state.WorkerState.{WorkerState}
 use Rattle.like_core.specs.WorkerState.{IsRunning, IsSightOf, RunsJoined, RunsSplit, phase_of, seen}
 use Rattle.like_requests.specs.declared.verdict.Verdict.TheVariants.{Accepted}
@@ -19,7 +19,7 @@ use Rattle.like_tables.specs.UserTable.{last_of}
 use Rattle.like_live.specs.declared.asked.Found.{Found}
 use Rattle.like_live.specs.LiveView.{LiveView, waiting, with_station}
 use Rattle.like_live.specs.Moves.{IsFoundAt, acknowledged, looked, step_for, with_found}
-use Rattle.like_live.specs.Calls.{asked_in, retired_seat, verdict_at}
+use Rattle.like_live.specs.Calls.{asked_in, verdict_at}
 use Rattle.like_live.specs.History.{IsInRow}
 use Rattle.like_live.specs.Deeds.{Deed, counted, deed, deed_now, deeds_found, glimpsed, made_since, showed}
 
@@ -33,6 +33,10 @@ saw_phase (Answered k) sight can runs = by sight.waits can runs where
   by true at runs = absurd runs
   by false at runs = at
 saw_phase Gone sight can runs = absurd can
+
+-- the seat after it retired
+abbrev pub retired_seat : LiveView → LiveView
+retired_seat v = with_station v (record v.station { post = retired v.station.post })
 
 -- the seat after a merge and its report
 abbrev pub reported : LiveView → List Addition → List Logged → LiveView

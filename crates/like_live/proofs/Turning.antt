@@ -15,12 +15,13 @@ use Rattle.like_core.specs.declared.sight.CoordSight.{CoordSight}
 use Rattle.like_core.specs.declared.view.CoordSeatView.{CoordSeatView}
 use Rattle.like_core.specs.declared.view.PhaseMask.{PhaseMask}
 use Rattle.like_core.specs.views.Views.{MayRelease, SawAllIn, mask_released}
-use Rattle.like_seat.specs.Lead.{LeadView, PublishesChoice, Sees, announced, counted_from, released, with_counts}
+use Rattle.like_seat.specs.Lead.{LeadView, Sees, announced, counted_from, published_choice, released, with_counts}
+use Rattle.like_seat.proofs.Choosing.{with-length}
 use Rattle.like_seat.proofs.Leading.{counted-is}
 use Rattle.like_choice.specs.Slots.{AreSlots, SlotsView}
 use Rattle.like_live.specs.declared.driver_answer.DriverAnswer.{DriverAnswer}
 use Rattle.like_live.specs.declared.driver_end.End.{End}
-use Rattle.like_live.specs.Splits.{AreSplitsOf, KeepsMarked, MayPropose, SawRunning, SplitsView, last_split, new_splits, slots_mask}
+use Rattle.like_live.specs.Splits.{AreSplitsOf, KeepsMarked, SawRunning, SplitsView, last_split, new_splits, slots_mask}
 use Rattle.like_live.specs.Driver.{Acts, AreDriverParts, Decides, DriverCase, DriverView, EndsJoined, EndsSplit, HasRoom, IsSameDriver, IsService, LooksForEnd, PublishesSlots, ReadsBoundary, ReadsLast, ReleasesNext, SnapshotCase, announces, as_proposed, by_host, by_seat, counted, ended, ends, ends_joined, ends_split, goes_on, is_ending, is_last, must_go_on, not_ended, not_now, proposes, releases, releases_joined, releases_split, running, taken, unasked, waiting}
 
 -- the lead after steps that release nothing and put nothing into slots
@@ -199,6 +200,10 @@ proposes-keeps v pages hinted = record {
   };
 }
 
+-- other pages may be proposed now
+abbrev MayPropose : SplitsView → SplitsView → Type 0
+MayPropose s after = after ≡ record s { proposed = after.proposed }
+
 joined-proposes : (s after : SplitsView) (end : End) (is_due : Bool) → EndsJoined s end is_due after → MayPropose s after
 joined-proposes s after end is_due (unasked _ _ is) = subst (MayPropose s) (sym is) refl
 joined-proposes s after end is_due (as_proposed _ _ _ is) = subst (MayPropose s) (sym is) refl
@@ -285,19 +290,19 @@ pub record HasPublished (v w : LeadView) (mask : ℕ) : Type 0 where
   pub published : w.seat.published ≡ Some mask
 
 pub has-published : (v w : LeadView) (s : SlotsView)
-    → PublishesChoice v s.slots s.bits w
+    → w ≡ published_choice v s.slots s.bits
     → HasPublished v w (slots_mask s)
 has-published v w s does = record {
-  board = ap (λ (l : LeadView). l.board) does.rest;
-  opening = ap (λ (l : LeadView). l.seat.opening) does.rest;
-  phase = ap (λ (l : LeadView). l.seat.phase) does.rest;
-  last = ap (λ (l : LeadView). l.seat.last) does.rest;
-  published = ap (λ (l : LeadView). l.seat.published) does.rest;
+  board = ap (λ (l : LeadView). l.board) does;
+  opening = ap (λ (l : LeadView). l.seat.opening) does;
+  phase = ap (λ (l : LeadView). l.seat.phase) does;
+  last = ap (λ (l : LeadView). l.seat.last) does;
+  published = ap (λ (l : LeadView). l.seat.published) does;
 }
 
 -- it may then be released
 pub may-release : (v w : LeadView) (s : SlotsView)
-    → PublishesChoice v s.slots s.bits w
+    → w ≡ published_choice v s.slots s.bits
     → SawAllIn v.seat
     → MayRelease w.seat
 may-release v w s does saw =
@@ -334,7 +339,8 @@ split-keeps v chosen even does =
         factor = does.chooses.same.0 ∙ kept.factor ∙ sym (ap (λ (z : Opening). z.factor) has.opening);
         pages = does.chooses.same.1 ∙ kept.pages ∙ sym (ap (λ (z : Opening). length z.counts) has.opening);
         held = held;
-        all = ap (λ (xs : List ℕ). length xs) held ∙ does.publishes.all;
+        all = ap (λ (xs : List ℕ). length xs) held ∙ ap (λ (l : LeadView). length l.seat.slots) does.publishes
+            ∙ with-length v.lead.seat.slots slots.slots slots.bits;
         released = λ past.
             ap (mask_of (released chosen.lead).seat.masks) (last-split (seat.phase + 1) odd)
             ∙ mask-new seat.masks (seat.phase + 1) (mask_released seat)
@@ -397,14 +403,14 @@ same-room back v w is room = record {
 }
 
 -- those of a new service are its board's
-pub new-splits : (c : CoordSeatView) (factor pages : ℕ) (marks told : List ℕ)
-    → AreSlots (new_splits factor pages marks told).slots
+pub new-splits : (c : CoordSeatView) (factor pages : ℕ) (marks told : List ℕ) (finds : Bool)
+    → AreSlots (new_splits factor pages marks told finds).slots
     → c.opening.factor ≡ factor
     → length c.opening.counts ≡ pages
     → c.slots ≡ replicate hot_pages 0
     → c.phase ≡ 0
-    → AreSplitsOf c (new_splits factor pages marks told)
-new-splits c factor pages marks told lawful by many held first = record {
+    → AreSplitsOf c (new_splits factor pages marks told finds)
+new-splits c factor pages marks told finds lawful by many held first = record {
   lawful = lawful;
   factor = sym by;
   pages = sym many;

@@ -114,15 +114,12 @@ TellsIfSplit v page (glance.Seen shown) = is_split_at v.station.post page ≡ fa
 TellsIfSplit v page (glance.Glimpsed shown) = is_split_at v.station.post page ≡ true
 TellsIfSplit v page answer = Unit {0}
 
--- the seat after it retired
-abbrev pub retired_seat : LiveView → LiveView
-retired_seat v = record v { station = record v.station { post = retired v.station.post } }
-
 -- what a seat that is to retire does after its look, if it runs a phase. In a joined phase, ending or not, it finds all
 -- looks that wait, and is gone. In a split phase it does what a turn does
 pub data RetireWorks (v : LiveView) (ending : Bool) (answer : TurnAnswer) (after : LiveView) : Type 0 where
   retires : (now : LiveView) → RunsJoined v.station.post.state → answer ≡ turn.Gone
-      → FindsAll v now → after ≡ retired_seat now → RetireWorks v ending answer after
+      → FindsAll v now → after ≡ with_station now (record now.station { post = retired now.station.post })
+      → RetireWorks v ending answer after
   stays : RunsSplit v.station.post.state → Works v ending answer after → RetireWorks v ending answer after
 
 -- retire case: the answer, and the seat after

@@ -1,5 +1,5 @@
 -- What a driver does in its calls.
-use Rattle.std.specs.Prelude.{◌≡◌, ◌≢◌, ℕ, ◌+◌, ◌||◌, ◌<◌, ◌≤◌, nat_lt, Bool, true, false, List, [], length, replicate, slice_index, Vec, vec_capacity, Option, Some, None}
+use Rattle.std.specs.Prelude.{◌≡◌, ◌≢◌, ℕ, zero, suc, ◌+◌, ◌||◌, ◌<◌, ◌≤◌, nat_lt, Bool, true, false, List, [], length, replicate, slice_index, Vec, vec_capacity, Option, Some, None}
 use Rattle.std.specs.declared.alloc.Global.{Global}
 use Rattle.like_board.specs.Rule.{opened_coord}
 use Rattle.like_board.specs.Seats.{BoardId}
@@ -10,7 +10,7 @@ use Rattle.like_core.specs.Phase.{IsJoined, IsSplit}
 use Rattle.like_core.specs.views.Places.{count_after}
 use Rattle.like_core.specs.declared.view.View.TheVariants.{Coord}
 use Rattle.like_core.specs.views.Shows.{IsKnown, IsLastMoment}
-use Rattle.like_seat.specs.Lead.{LeadView, PublishesChoice, Sees, announced, new_lead, released, with_counts}
+use Rattle.like_seat.specs.Lead.{LeadView, Sees, announced, new_lead, published_choice, released, with_counts}
 use Rattle.like_choice.specs.Slots.{AreSlots, Chooses}
 use Rattle.like_live.specs.Opening.{board_opening}
 use Rattle.like_live.specs.Splits.{AreSplitsOf, KeepsMarked, Proposes, SplitsView, new_splits, would_split}
@@ -32,15 +32,11 @@ pub record DriverView : Type 0 where
 abbrev pub driver_of : LeadView → SplitsView → Bool → Bool → DriverView
 driver_of lead splits hinted is_over = record { lead = lead; splits = splits; hinted = hinted; is_over = is_over }
 
--- one whose service goes on
-abbrev pub drives : LeadView → SplitsView → Bool → DriverView
-drives lead splits hinted = driver_of lead splits hinted false
-
 -- the driver chooses slots for the proposed pages, and publishes them
 pub record PublishesSlots (v after : DriverView) : Type 0 where
   pub chooses : Chooses v.splits.slots v.splits.proposed after.splits.slots
   pub lawful : AreSlots after.splits.slots
-  pub publishes : PublishesChoice v.lead after.splits.slots.slots after.splits.slots.bits after.lead
+  pub publishes : after.lead ≡ published_choice v.lead after.splits.slots.slots after.splits.slots.bits
   pub rest : after ≡ record v {
     lead = after.lead;
     splits = record v.splits { slots = after.splits.slots; held = after.lead.seat.slots };
@@ -191,11 +187,18 @@ pub record TakesLast (v : DriverView) (from : ℕ) (old : List ℕ) (is_done : B
   pub case : ReadsLast v.lead from old is_done after.lead counts
   pub over : after ≡ record v { lead = after.lead; is_over = is_done || v.is_over }
 
+-- last counts were asked for so often
+abbrev pub AsksLast : LeadView → ℕ → LeadView → Type 0
+AsksLast v zero after = after ≡ v
+AsksLast v (suc n) after =
+    (now : LeadView) × (from : ℕ) × (old : List ℕ) × (counts : List ℕ) × (is_done : Bool)
+    × ReadsLast v from old is_done now counts × AsksLast now n after
+
 -- last counts stay: once they were written, they are written whenever they are asked for, and a page has the same count
 abbrev pub LastCountsStay : Type 0
 LastCountsStay =
-    (u v w : DriverView) (from next : ℕ) (old others counts later : List ℕ) (is_done : Bool)
-    → TakesLast u from old true v counts → TakesLast v next others is_done w later
+    (u v w x : DriverView) (n from next : ℕ) (old others counts later : List ℕ) (is_done : Bool)
+    → TakesLast u from old true v counts → AsksLast v.lead n w.lead → TakesLast w next others is_done x later
     → (is_done ≡ true) × ((i j : ℕ) → i < length counts → j < length later → from + i ≡ next + j
     → slice_index counts i ≡ slice_index later j)
 
@@ -225,10 +228,10 @@ pub record HasRoom (back : Vec WorkerSeat Global) (v : DriverView) : Type 0 wher
   pub enough : v.lead.seat.opening.workers ≤ vec_capacity back
 
 -- a new driver at this board, by this factor: it has done nothing yet
-abbrev pub new_driver : Opening → ℕ → BoardId → List ℕ → DriverView
-new_driver o factor board told = record {
+abbrev pub new_driver : Opening → ℕ → BoardId → List ℕ → Bool → DriverView
+new_driver o factor board told finds = record {
   lead = new_lead board (opened_coord (board_opening o factor)) None o.counts.items;
-  splits = new_splits factor (length o.counts.items) o.marks.items told;
+  splits = new_splits factor (length o.counts.items) o.marks.items told finds;
   hinted = false;
   is_over = false;
 }

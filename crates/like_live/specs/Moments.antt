@@ -1,5 +1,5 @@
 -- The seats of a service at a moment of its board, which is between any two steps: what the board's rule says of them.
-use Rattle.std.specs.Prelude.{◌≡◌, ℕ, ◌+◌, ◌<◌, ◌↔◌, true, All, List, Contains, length, slice_index, sum_by}
+use Rattle.std.specs.Prelude.{◌≡◌, ℕ, ◌+◌, ◌<◌, ◌↔◌, Bool, true, All, List, Contains, length, slice_index, sum_by}
 use mathlib.Core.Option.{some}
 use lib.ListN.{get_elem?}
 use Rattle.like_board.specs.Seats.{BoardId}
@@ -56,6 +56,6 @@ SplitPagesAreSlots =
 -- marked pages keep slots: whatever calls a driver was asked, each marked page is in a slot in use
 abbrev pub MarkedKeepSlots : Type 0
 MarkedKeepSlots =
-    (o : Asked) (factor : ℕ) (board : BoardId) (told : List ℕ) (v : DriverView)
-    → IsSameDriver (new_driver o factor board told) v → IsService v
+    (o : Asked) (factor : ℕ) (board : BoardId) (told : List ℕ) (finds : Bool) (v : DriverView)
+    → IsSameDriver (new_driver o factor board told finds) v → IsService v
     → (page : ℕ) → Contains o.marks.items page → IsSlotted v.splits.slots page

@@ -32,7 +32,7 @@ pub record AreOpened (o : Opening) (driver : DriverView) (seats : List LiveView)
   pub within : IsWithinLimits o
   pub factor : ℕ
   pub first : IsFirstApart o.marks.items factor
-  pub new : driver ≡ new_driver o factor driver.lead.board driver.splits.told
+  pub new : driver ≡ new_driver o factor driver.lead.board driver.splits.told driver.splits.finds
   pub fresh : AreOpenedSeats o factor driver.lead.board seats
 
 -- the seats are those of the driver's board, each of them once

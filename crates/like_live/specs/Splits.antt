@@ -1,40 +1,43 @@
 -- Which pages are split in a service, and which are proposed for the next split phase.
-use Rattle.std.specs.Prelude.{◌≡◌, ◌≢◌, false, IsSomeAnd, ℕ, ◌-◌, ◌%◌, ◌<◌, ◌≤◌, ◌==◌, if◌then◌else◌, Bool, List, [], length, replicate, slice_index}
+use Rattle.std.specs.Prelude.{◌≡◌, ◌≢◌, ◌⊎◌, false, IsSomeAnd, ℕ, ◌-◌, ◌%◌, ◌<◌, ◌≤◌, ◌==◌, if◌then◌else◌, Bool, List, [], length, replicate, slice_index}
 use Rattle.like_limits.specs.Limits.{hot_pages}
 use Rattle.like_core.specs.PhaseMasks.{mask_of}
 use Rattle.like_core.specs.Slots.{IsInSlot, mask_of_slots}
 use Rattle.like_core.specs.declared.view.CoordSeatView.{CoordSeatView}
 use Rattle.like_choice.specs.Slots.{AreSlots, SlotsView, new_slots, would_use}
 
--- the slots of the present or last split phase; the pages that its choice is told to propose, or none; those that are
--- proposed for the next one, the most popular first; and what the slots of the board hold
+-- the slots of the present or last split phase; the pages that its choice is told to propose, and whether it may find
+-- others, while it is told none; those that are proposed for the next one, the most popular first; and what the slots of
+-- the board hold
 pub record SplitsView : Type 0 where
   pub slots : SlotsView
   pub told : List ℕ
+  pub finds : Bool
   pub proposed : List ℕ
   pub held : List ℕ
 
 -- the split pages of a new service: the marked pages have slots, none is proposed, and the board's slots hold zeros
-abbrev pub new_splits : ℕ → ℕ → List ℕ → List ℕ → SplitsView
-new_splits factor pages marks told =
-    record { slots = new_slots factor pages marks; told = told; proposed = []; held = replicate hot_pages 0 }
+abbrev pub new_splits : ℕ → ℕ → List ℕ → List ℕ → Bool → SplitsView
+new_splits factor pages marks told finds = record {
+  slots = new_slots factor pages marks;
+  told = told;
+  finds = finds;
+  proposed = [];
+  held = replicate hot_pages 0;
+}
 
 -- whether something would be split in the next split phase: a page is marked, or a page of the service is proposed
 abbrev pub would_split : SplitsView → Bool
 would_split s = would_use s.slots s.proposed
 
--- other pages may be proposed now
-abbrev pub MayPropose : SplitsView → SplitsView → Type 0
-MayPropose s after = after ≡ record s { proposed = after.proposed }
-
 -- the last look showed the phase running: its end isn't announced
 abbrev pub SawRunning : CoordSeatView → Type 0
 SawRunning c = IsSomeAnd c.last (λ sight. sight.ending ≡ false)
 
--- the driver's choice was asked: if it is told which pages to propose, these are proposed now
+-- the driver's choice was asked: if it is told which pages to propose, or may find none, these are proposed now
 pub record Proposes (s after : SplitsView) : Type 0 where
-  pub told : s.told ≢ [] → after.proposed ≡ s.told
-  pub rest : MayPropose s after
+  pub told : (s.told ≢ []) ⊎ (s.finds ≡ false) → after.proposed ≡ s.told
+  pub rest : after ≡ record s { proposed = after.proposed }
 
 -- a slot in use holds the page
 abbrev pub IsSlotted : SlotsView → ℕ → Type 0

@@ -80,7 +80,7 @@ impl<C: Choice + Drop> Driver<C> {
         requires here { coord_board coord ≡ board_id (arc_value board) }
         requires new { coord_view coord ≡ opened_coord (board_opening opening.now factor) }
         ensures { IfOk result (λ driver. driver
-            ≡ new_driver opening.now factor (board_id (arc_value board)) (C.told choice)) }
+            ≡ new_driver opening.now factor (board_id (arc_value board)) (C.told choice) (C.finds choice)) }
     {
         let back = Vec::with_capacity(alloc, opening.seats as usize)?;
         let phase_now = PhaseNow::new(alloc)?;

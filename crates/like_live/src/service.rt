@@ -1,4 +1,5 @@
 ghost use Rattle.std.specs.Prelude.{◌≡◌, [], IfErr, IfOk, OnOk, length};
+ghost use Rattle.std.specs.Option.{is_some};
 ghost use Rattle.like_live.specs.Opening.{IsRefused};
 ghost use Rattle.like_live.specs.Service.{AreGone, AreItsSeats, CallsKeepSeats, AreOpened, IsClosedService};
 
@@ -39,6 +40,7 @@ impl Service<Guided> {
     pub fn open(alloc: Global, opening: &Opening) -> Result<Service<Guided>, OpenError>
         ensures opened { IfOk result (λ s. AreOpened opening.now s.driver s.seats.items) }
         ensures told { IfOk result (λ s. s.driver.splits.told ≡ []) }
+        ensures finds { IfOk result (λ s. s.driver.splits.finds ≡ is_some opening.now.hot) }
         ensures whole { IfOk result (λ s. AreItsSeats s.driver s.seats.items) }
         ensures refused { IfErr result (IsRefused opening.now) }
     {
@@ -57,6 +59,7 @@ impl<C: Choice + Drop> Service<C> {
     pub fn open_with(alloc: Global, opening: &Opening, choice: C) -> Result<Service<C>, OpenError>
         ensures opened { IfOk result (λ s. AreOpened opening.now s.driver s.seats.items) }
         ensures told { IfOk result (λ s. s.driver.splits.told ≡ C.told choice) }
+        ensures finds { IfOk result (λ s. s.driver.splits.finds ≡ C.finds choice) }
         ensures whole { IfOk result (λ s. AreItsSeats s.driver s.seats.items) }
         ensures refused { IfErr result (IsRefused opening.now) }
     {

@@ -1,5 +1,6 @@
 -- What leads the phases of a board, and what each of its steps does to it.
-use Rattle.std.specs.Prelude.{◌≡◌, ℕ, ◌+◌, ◌-◌, ◌<◌, nat_le, Bool, true, List, [], ◌∷◌, length, min, take, slice_index, slice_set, Option, Some, None}
+use Rattle.std.specs.Prelude.{◌≡◌, ℕ, ◌+◌, ◌-◌, nat_le, if◌then◌else◌, Bool, true, List, [], ◌∷◌, length, map, min, take, slice_index, Option, Some, None}
+use Rattle.std.specs.List.{range_with_len}
 use Rattle.like_board.specs.Led.{IsSightOf}
 use Rattle.like_board.specs.Seats.{BoardId}
 use Rattle.like_core.specs.declared.sight.CoordSight.{CoordSight}
@@ -90,29 +91,20 @@ pub record MayPublishChoice (c : CoordSeatView) (pages : List ℕ) (bits : ℕ) 
   pub len : length pages ≡ hot_pages
   pub choice : IsChoice c.opening.factor (length c.opening.counts) (slice_index pages) bits
 
--- each slot in use of the first `many` holds its page
-abbrev pub HoldPages : List ℕ → List ℕ → ℕ → ℕ → Type 0
-HoldPages slots pages bits many =
-    (slot : ℕ) → slot < many → has_bit bits slot ≡ true → slice_index slots slot ≡ slice_index pages slot
+-- the slots after these pages were put into those that are in use
+unfoldable pub slots_with : List ℕ → List ℕ → ℕ → List ℕ
+slots_with slots pages bits =
+    map (λ slot. slice_index (if has_bit bits slot then pages else slots) slot) (range_with_len 0 hot_pages)
 
--- a lead puts these pages into slots, and publishes their mask
-pub record PublishesChoice (v : LeadView) (pages : List ℕ) (bits : ℕ) (after : LeadView) : Type 0 where
-  pub all : length after.seat.slots ≡ hot_pages
-  pub holds : HoldPages after.seat.slots pages bits hot_pages
-  pub rest : after ≡ record v {
-    seat = record v.seat {
-      slots = after.seat.slots;
-      published = Some (mask_of_slots (slice_index pages) bits hot_pages);
-    };
-  }
+-- after it put these pages into the slots in use, and published their mask
+abbrev pub published_choice : LeadView → List ℕ → ℕ → LeadView
+published_choice v pages bits = record v {
+  seat = record v.seat {
+    slots = slots_with v.seat.slots pages bits;
+    published = Some (mask_of_slots (slice_index pages) bits hot_pages);
+  };
+}
 
--- its seat put a page into a slot
-pub record PutsPage (c : CoordSeatView) (slot page : ℕ) (after : CoordSeatView) : Type 0 where
-  pub slots : after.slots ≡ slice_set c.slots slot page
-  pub rest : after ≡ record c { slots = after.slots; published = after.published }
-
--- its seat put these pages into those of the first `many` slots that are in use
-pub record PutsPages (c : CoordSeatView) (pages : List ℕ) (bits many : ℕ) (after : CoordSeatView) : Type 0 where
-  pub all : length after.slots ≡ hot_pages
-  pub holds : HoldPages after.slots pages bits many
-  pub rest : after ≡ record c { slots = after.slots; published = after.published }
+-- its seat put pages into slots, which are these then
+abbrev pub PutsPages : CoordSeatView → List ℕ → CoordSeatView → Type 0
+PutsPages c slots after = after ≡ record c { slots = slots; published = after.published }

@@ -24,7 +24,7 @@ seen-alike v w sight sees = ap (λ (l : LeadView). l.seat.counted) sees.saw
 releases-alike : (v w : DriverView) → ReleasesNext v w → counted w ≡ counted v
 releases-alike v w (releases_joined split same) = ap counted same
 releases-alike v w (releases_split joined chosen publishes same) =
-    ap counted same ∙ ap (λ (l : LeadView). l.seat.counted) publishes.publishes.rest
+    ap counted same ∙ ap (λ (l : LeadView). l.seat.counted) publishes.publishes
 
 decides-alike : (v w : DriverView) (sight : CoordSight) (end : End) (is_due : Bool) → Decides v sight end is_due w
     → counted w ≡ counted v

@@ -1,6 +1,7 @@
 //! A service that threads come to and leave. Each makes a client at its desk and parks it there, so nobody collects
 //! clients at the end.
 ghost use Rattle.std.specs.Prelude.{◌≡◌, ◌++◌, ◌+◌, ◌-◌, ◌<◌, ◌≤◌, ◌^◌, ◌↔◌, [], ◌∷◌, IfErr, IfOk, IsTrue, MatchBool, MatchResult, OnOk, false, length, replicate};
+ghost use Rattle.std.specs.Option.{is_some};
 ghost use Rattle.told_lock.specs.Deeds.{named};
 ghost use Rattle.told_lock.specs.Rights.{IsHolding, IsIdle, IsKeeper, first_of, log_of, name_of, told_of};
 ghost use Rattle.like_live.specs.Opening.{IsRefused};
@@ -54,6 +55,7 @@ impl Hub {
         ensures opened { IfOk result (λ r. AreOpened opening.now (first_driver r.0.service) (first_seats r.0.service)) }
         ensures unused { IfOk result (λ r. IsUnused (first_of r.0.desk)) }
         ensures proposed { IfOk result (λ r. (first_driver r.0.service).splits.told ≡ []) }
+        ensures finds { IfOk result (λ r. (first_driver r.0.service).splits.finds ≡ is_some opening.now.hot) }
         ensures cards { IfOk result (λ r. IsKeeper r.0.desk r.1) }
         ensures out { IfOk result (λ r. r.1.out ≡ 0) }
         ensures told { IfOk result (λ r. told_of r.1 ≡ []) }

@@ -1,6 +1,7 @@
 //! A service whose seats and driver lie behind locks.
 ghost use Rattle.std.specs.Prelude.{◌≡◌, ◌%◌, ◌<◌, ◌≤◌, [], All, IfErr, IfOk, length, map};
 ghost use Rattle.std.specs.List.{AllZip};
+ghost use Rattle.std.specs.Option.{is_some};
 ghost use Rattle.told_lock.specs.Rights.{IsKeeper, first_of, told_of};
 ghost use Rattle.like_live.specs.Opening.{IsRefused};
 ghost use Rattle.like_live.specs.Service.{AreItsSeats, AreOpened};
@@ -63,6 +64,7 @@ impl SharedService {
         ensures keeper { IfOk result (λ r. IsServiceKeeper r.0 r.1) }
         ensures unused { IfOk result (λ r. IsUnused r.1) }
         ensures proposed { IfOk result (λ r. (first_driver r.0).splits.told ≡ []) }
+        ensures finds { IfOk result (λ r. (first_driver r.0).splits.finds ≡ is_some opening.now.hot) }
         ensures refused { IfErr result (IsRefused opening.now) }
     {
         let Service { driver, seats } = Service::open(alloc, opening)?;

@@ -83,9 +83,11 @@ struct Moving {
 }
 
 impl Choice for Moving {
-    ghost use Rattle.std.specs.Prelude.{[]};
+    ghost use Rattle.std.specs.Prelude.{[], true};
 
     ghost told = { λ _. [] };
+
+    ghost finds = { λ _. true };
 
     fn propose(&mut self, _slots: &Slots, proposed: &mut Proposal) {
         proposed.clear();

@@ -4,7 +4,7 @@ ghost use Rattle.like_board.specs.Seats.{board_id};
 ghost use Rattle.like_core.specs.OpeningLimits.{service_limits};
 ghost use Rattle.like_core.specs.Phase.{IsJoined};
 ghost use Rattle.like_core.specs.views.Views.{SawAllIn};
-ghost use Rattle.like_seat.specs.Lead.{PublishesChoice};
+ghost use Rattle.like_seat.specs.Lead.{published_choice};
 ghost use Rattle.like_limits.specs.Buckets.{AreApart};
 ghost use Rattle.like_choice.specs.Slots.{AreSlots, Chooses, pages_in_use};
 ghost use Rattle.like_live.specs.Splits.{AreSplitsOf, Proposes, SawRunning, new_splits, would_split};
@@ -34,6 +34,7 @@ impl<C: Choice> Model for Splits<C> {
     ghost view = { λ s. record {
       slots = s.slots;
       told = C.told s.choice;
+      finds = C.finds s.choice;
       proposed = s.proposed;
       held = s.held;
     } };
@@ -45,7 +46,7 @@ impl<C: Choice> Splits<C> {
         requires few { length marks.now ≤ hot_pages }
         requires there { All (λ page. page < pages) marks.now }
         requires apart { AreApart factor marks.now }
-        ensures new { result ≡ new_splits factor pages marks.now (C.told choice) }
+        ensures new { result ≡ new_splits factor pages marks.now (C.told choice) (C.finds choice) }
         ensures lawful { AreSlots result.slots }
     {
         Splits {
@@ -80,9 +81,10 @@ impl<C: Choice> Splits<C> {
         requires splits { AreSplitsOf lead.old.seat self.old }
         ensures chooses { Chooses self.old.slots self.old.proposed self.new.slots }
         ensures lawful { AreSlots self.new.slots }
-        ensures publishes { PublishesChoice lead.old self.new.slots.slots self.new.slots.bits lead.new }
+        ensures publishes { lead.new ≡ published_choice lead.old self.new.slots.slots self.new.slots.bits }
         ensures held { self.new.held ≡ lead.new.seat.slots }
         ensures told { self.new.told ≡ self.old.told }
+        ensures finds { self.new.finds ≡ self.old.finds }
         ensures proposed { self.new.proposed ≡ self.old.proposed }
     {
         self.slots.choose(self.proposed.pages());

@@ -2,7 +2,7 @@ ghost use Rattle.std.specs.Prelude.{◌≡◌, ◌↔◌, false, IsTrue};
 ghost use Rattle.like_board.specs.Seats.{board_id};
 ghost use Rattle.like_core.specs.OpeningLimits.{service_limits};
 ghost use Rattle.like_core.specs.views.Views.{SawAllIn};
-ghost use Rattle.like_live.specs.Driver.{Acts, Decides, EndsJoined, EndsSplit, IsLeft, MayEnd, ReleasesNext, drives};
+ghost use Rattle.like_live.specs.Driver.{Acts, Decides, EndsJoined, EndsSplit, IsLeft, MayEnd, ReleasesNext, driver_of};
 ghost use Rattle.like_live.specs.Splits.{AreSplitsOf, SawRunning};
 
 use super::splits::Splits;
@@ -28,8 +28,8 @@ pub(crate) fn act<C: Choice>(
     requires here { lead.old.board ≡ board_id board.now }
     requires limits { lead.old.seat.opening.limits ≡ service_limits }
     requires splits { AreSplitsOf lead.old.seat splits.old }
-    ensures { Acts (drives lead.old splits.old hint.old) end result
-        (drives lead.new splits.new hint.new) }
+    ensures { Acts (driver_of lead.old splits.old hint.old false) end result
+        (driver_of lead.new splits.new hint.new false) }
 {
     let sight = lead.look(board);
     if sight.ending {
@@ -73,8 +73,8 @@ fn prepare_end<C: Choice>(
     end: End,
 ) -> bool
     requires running { SawRunning lead.now.seat }
-    ensures { Decides (drives lead.now splits.old hint.old) sight end result
-        (drives lead.now splits.new hint.new) }
+    ensures { Decides (driver_of lead.now splits.old hint.old false) sight end result
+        (driver_of lead.now splits.new hint.new false) }
 {
     if !may_end(lead, sight) {
         return false;
@@ -125,7 +125,7 @@ fn release<C: Choice>(lead: &mut Lead, splits: &mut Splits<C>, board: &Board)
     requires limits { lead.old.seat.opening.limits ≡ service_limits }
     requires saw { SawAllIn lead.old.seat }
     requires splits { AreSplitsOf lead.old.seat splits.old }
-    ensures { ReleasesNext (drives lead.old splits.old false) (drives lead.new splits.new false) }
+    ensures { ReleasesNext (driver_of lead.old splits.old false false) (driver_of lead.new splits.new false false) }
 {
     if lead.is_joined() {
         splits.publish(lead, board);

@@ -37,6 +37,7 @@ pub(crate) fn new_service<C: Choice + Drop>(
     requires within { IsWithinLimits opening.now }
     ensures opened { IfOk result (λ s. AreOpened opening.now s.driver s.seats.items) }
     ensures told { IfOk result (λ s. s.driver.splits.told ≡ C.told choice) }
+    ensures finds { IfOk result (λ s. s.driver.splits.finds ≡ C.finds choice) }
 {
     let factor = opening.factor();
     let (board, coord, workers) = Board::for_service(

@@ -6,7 +6,7 @@ ghost use Rattle.like_core.specs.declared.view.View.TheVariants.{Coord};
 ghost use Rattle.like_core.specs.Phase.{IsJoined};
 ghost use Rattle.like_core.specs.views.Shows.{IsKnown};
 ghost use Rattle.like_core.specs.views.Views.{MayAnnounce, MayRelease, SawAllIn};
-ghost use Rattle.like_seat.specs.Lead.{MayPublishChoice, PublishesChoice, Sees, announced, released, with_counts};
+ghost use Rattle.like_seat.specs.Lead.{MayPublishChoice, Sees, announced, published_choice, released, with_counts};
 
 use super::LeadOf;
 use super::counts::read_range;
@@ -66,7 +66,7 @@ impl LeadOf<CoordSeat> {
         requires may { MayPublishChoice self.old.seat pages.now bits }
         requires held { held.old ≡ self.old.seat.slots }
         requires all { length held.old ≡ hot_pages }
-        ensures publishes { PublishesChoice self.old pages.now bits self.new }
+        ensures publishes { self.new ≡ published_choice self.old pages.now bits }
         ensures held { held.new ≡ self.new.seat.slots }
     {
         put_pages(&mut self.seat, board, held, pages, bits);

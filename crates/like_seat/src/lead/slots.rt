@@ -1,8 +1,8 @@
-ghost use Rattle.std.specs.Prelude.{◌≡◌, length};
+ghost use Rattle.std.specs.Prelude.{◌≡◌, length, slice_set};
 ghost use Rattle.like_board.specs.Seats.{board_id, coord_board, coord_view};
 ghost use Rattle.like_limits.specs.Limits.{hot_pages};
 ghost use Rattle.like_core.specs.views.Views.{MayPut};
-ghost use Rattle.like_seat.specs.Lead.{MayPublishChoice, PutsPage, PutsPages};
+ghost use Rattle.like_seat.specs.Lead.{MayPublishChoice, PutsPages, slots_with};
 
 use like_board::{Board, CoordSeat};
 use like_core::{HOT_PAGES, has_bit};
@@ -20,7 +20,8 @@ pub(crate) fn put_pages(
     requires held { held.old ≡ (coord_view seat.old).slots }
     requires all { length held.old ≡ hot_pages }
     ensures board { coord_board seat.new ≡ coord_board seat.old }
-    ensures puts { PutsPages (coord_view seat.old) pages.now bits hot_pages (coord_view seat.new) }
+    ensures puts { let c = coord_view seat.old in
+        PutsPages c (slots_with c.slots pages.now bits) (coord_view seat.new) }
     ensures held { held.new ≡ (coord_view seat.new).slots }
 {
     for slot in 0..HOT_PAGES {
@@ -37,7 +38,8 @@ fn put_page(seat: &mut CoordSeat, board: &Board, held: &mut [u32], slot: u32, pa
     requires held { held.old ≡ (coord_view seat.old).slots }
     requires all { length held.old ≡ hot_pages }
     ensures board { coord_board seat.new ≡ coord_board seat.old }
-    ensures puts { PutsPage (coord_view seat.old) slot page (coord_view seat.new) }
+    ensures puts { let c = coord_view seat.old in
+        PutsPages c (slice_set c.slots slot page) (coord_view seat.new) }
     ensures held { held.new ≡ (coord_view seat.new).slots }
 {
     if held[slot as usize] == page {

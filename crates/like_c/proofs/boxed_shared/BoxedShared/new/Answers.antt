@@ -1,5 +1,6 @@
 use Rattle.std.proofs.Common.{◌≡◌, [], inr, rules, subst, sym, IfErr}
 use Rattle.std.proofs.lemmas.Result.{IfErr-weaker, IfOk-weaker}
+use Rattle.std.specs.Option.{is_some}
 use Rattle.told_lock.specs.Rights.{first_of, told_of}
 use Rattle.told_lock.specs.declared.keeper.Keeper.{Keeper}
 use Rattle.like_live.specs.Opening.{Asking, IsRefusedFor}
@@ -25,6 +26,7 @@ returns-clause-opened c =
       opened =
           subst (λ (h : Hub). AreOpened o (first_driver h.service) (first_seats h.service)) (sym is.0) opened.opened;
       proposed = subst (λ (h : Hub). (first_driver h.service).splits.told ≡ []) (sym is.0) opened.proposed;
+      finds = subst (λ (h : Hub). (first_driver h.service).splits.finds ≡ is_some o.hot) (sym is.0) opened.finds;
       unused = subst (λ (h : Hub). IsUnused (first_of h.desk)) (sym is.0) opened.unused;
       out = subst (λ (k : Cards). k.out ≡ 0) (sym is.1) opened.out;
       told = subst (λ (k : Cards). told_of k ≡ []) (sym is.1) opened.told;

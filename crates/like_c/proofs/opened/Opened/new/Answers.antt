@@ -19,6 +19,7 @@ returns-clause-opened c =
       opened = subst (λ (d : DriverView). AreOpened o d (reverse (map seat_in b.value.seats.items))) (sym is.0)
           (subst (λ (s : List LiveView). AreOpened o service.driver s) (sym is.1) c.in_ok-service.ensures.opened);
       told = ap (λ (d : DriverView). d.splits.told) is.0 ∙ c.in_ok-service.ensures.told;
+      finds = ap (λ (d : DriverView). d.splits.finds) is.0 ∙ c.in_ok-service.ensures.finds;
       room = is.2;
       phase = is.3;
     })

@@ -28,7 +28,7 @@ invariant_of-result g c =
           plain = subst (λ (z : CoreOpening). z.marks ≡ replicate (length z.counts) false) (sym opening) refl;
           limits = ap (λ (z : CoreOpening). z.limits) opening;
           splits = subst (λ (s : SplitsView). AreSplitsOf c.in-Ok.lead.seat s) (sym is)
-              (new-splits c.in-Ok.lead.seat c.args.factor c.len-pages.result c.deref-in-Ok.result.now _
+              (new-splits c.in-Ok.lead.seat c.args.factor c.len-pages.result c.deref-in-Ok.result.now _ _
               (subst (λ (s : SplitsView). AreSlots s.slots) is c.new-in-Ok.ensures.lawful)
               (ap (λ (z : CoreOpening). z.factor) opening)
               (ap (λ (z : CoreOpening). length z.counts) opening ∙ sym (c.len-pages.ensures ∙ o.counts.ok.0))

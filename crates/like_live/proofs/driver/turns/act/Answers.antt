@@ -2,7 +2,7 @@ use Rattle.std.proofs.Common.{Bool, false, ◌<◌, refl, ap, sym, subst, ◌∙
 use Rattle.std.proofs.lemmas.Bool.{not-false}
 use Rattle.like_core.specs.declared.limits.Limits.{Limits}
 use Rattle.like_core.specs.declared.opening.Opening.{Opening}
-use Rattle.like_live.specs.Driver.{Decides, ReleasesNext, announces, drives, ended, releases, running}
+use Rattle.like_live.specs.Driver.{Decides, ReleasesNext, announces, driver_of, ended, releases, running}
 use Rattle.like_live.proofs.Turning.{due-goes-on, look-keeps, saw_all_in, saw_running, splits-still}
 use Rattle.like_live.proofs.driver.turns.act.Goals as goal
 
@@ -44,27 +44,27 @@ returns-then-sight g c = record {
   seen = c.look-sight.new.self;
   sees = c.look-sight.ensures;
   case = releases c.if-sight.true (not-false _ c.if-not-sight.false) refl
-      (subst (λ (b : Bool). ReleasesNext (drives c.look-sight.new.self c.args.splits.now false)
-      (drives c.release.new.lead c.release.new.splits b)) (sym c.clear.ensures) c.release.ensures);
+      (subst (λ (b : Bool). ReleasesNext (driver_of c.look-sight.new.self c.args.splits.now false false)
+      (driver_of c.release.new.lead c.release.new.splits b false)) (sym c.clear.ensures) c.release.ensures);
 }
 
 pub returns-then-prepare_end : goal.returns-then-prepare_end
 returns-then-prepare_end g c =
-    let before = drives c.look-sight.new.self c.args.splits.now c.args.hint.now in
-    let now = drives c.look-sight.new.self c.prepare_end.new.splits c.prepare_end.new.hint in
+    let before = driver_of c.look-sight.new.self c.args.splits.now c.args.hint.now false in
+    let now = driver_of c.look-sight.new.self c.prepare_end.new.splits c.prepare_end.new.hint false in
     record {
       sight = c.look-sight.result;
       seen = c.look-sight.new.self;
       sees = c.look-sight.ensures;
       case = announces now c.if-sight.false
           (subst (λ (b : Bool). Decides before c.look-sight.result c.args.end b now) c.if-prepare_end.true c.prepare_end.ensures) refl
-          (λ m. drives (c.announce.ensures m) c.prepare_end.new.splits c.prepare_end.new.hint);
+          (λ m. driver_of (c.announce.ensures m) c.prepare_end.new.splits c.prepare_end.new.hint false);
     }
 
 pub returns : goal.returns
 returns g c =
-    let before = drives c.look-sight.new.self c.args.splits.now c.args.hint.now in
-    let now = drives c.look-sight.new.self c.prepare_end.new.splits c.prepare_end.new.hint in
+    let before = driver_of c.look-sight.new.self c.args.splits.now c.args.hint.now false in
+    let now = driver_of c.look-sight.new.self c.prepare_end.new.splits c.prepare_end.new.hint false in
     record {
       sight = c.look-sight.result;
       seen = c.look-sight.new.self;
@@ -75,8 +75,8 @@ returns g c =
 
 pub returns-then-sight-2 : goal.returns-then-sight-2
 returns-then-sight-2 g c =
-    let before = drives c.look-sight.new.self c.args.splits.now c.args.hint.now in
-    let now = drives c.look-sight.new.self c.prepare_end.new.splits c.prepare_end.new.hint in
+    let before = driver_of c.look-sight.new.self c.args.splits.now c.args.hint.now false in
+    let now = driver_of c.look-sight.new.self c.prepare_end.new.splits c.prepare_end.new.hint false in
     record {
       sight = c.look-sight.result;
       seen = c.look-sight.new.self;

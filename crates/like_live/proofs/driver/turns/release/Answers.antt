@@ -3,7 +3,7 @@ use Rattle.std.proofs.lemmas.Bool.{eq-eqb, eqb-true}
 use Rattle.like_core.specs.Phase.{IsJoined, IsSplit}
 use Rattle.like_core.specs.views.Views.{MayRelease}
 use Rattle.like_seat.specs.Lead.{LeadView, released}
-use Rattle.like_live.specs.Driver.{drives, releases_joined, releases_split}
+use Rattle.like_live.specs.Driver.{driver_of, releases_joined, releases_split}
 use Rattle.like_live.proofs.Turning.{may-release}
 use Rattle.like_live.proofs.driver.turns.release.Goals as goal
 use Rattle.like_live.proofs.driver.turns.release.Goals.{then-is_joined, else-is_joined}
@@ -24,7 +24,7 @@ release-requires-clause-may g c =
     let phase = c.args.lead.now.seat.phase in
     elim c.if-is_joined.branch [
       | then-is_joined w ↦ subst (λ (l : LeadView). MayRelease l.seat) (sym w.lead-is)
-          (may-release _ _ w.publish.new.self.slots w.publish.ensures.publishes c.requires.saw)
+          (may-release c.args.lead.now w.publish.new.lead w.publish.new.self.slots w.publish.ensures.publishes c.requires.saw)
       | else-is_joined w ↦ subst (λ (l : LeadView). MayRelease l.seat) (sym w.lead-is) (
         c.requires.saw,
         λ joined. (let odd = split phase (sym c.is_joined.ensures ∙ w.if-is_joined.false) in
@@ -39,20 +39,21 @@ returns g c =
       | then-is_joined w ↦
           releases_split
           (eqb-true (phase % 2) 0 (sym c.is_joined.ensures ∙ w.if-is_joined.true))
-          (drives w.publish.new.lead w.publish.new.self false)
+          (driver_of w.publish.new.lead w.publish.new.self false false)
           (record {
             chooses = w.publish.ensures.chooses;
             lawful = w.publish.ensures.lawful;
             publishes = w.publish.ensures.publishes;
-            rest = λ m. drives w.publish.new.lead (record {
+            rest = λ m. driver_of w.publish.new.lead (record {
               slots = w.publish.new.self.slots;
               told = w.publish.ensures.told m;
+              finds = w.publish.ensures.finds m;
               proposed = w.publish.ensures.proposed m;
               held = w.publish.ensures.held m;
-            }) false;
+            }) false false;
           })
-          (λ m. drives ((c.release.ensures ∙ ap released w.lead-is) m) (w.splits-is m) false)
+          (λ m. driver_of ((c.release.ensures ∙ ap released w.lead-is) m) (w.splits-is m) false false)
       | else-is_joined w ↦
           releases_joined (split phase (sym c.is_joined.ensures ∙ w.if-is_joined.false))
-          (λ m. drives ((c.release.ensures ∙ ap released w.lead-is) m) (w.splits-is m) false)
+          (λ m. driver_of ((c.release.ensures ∙ ap released w.lead-is) m) (w.splits-is m) false false)
     ]

@@ -1,4 +1,4 @@
-use Rattle.std.proofs.Common.{◌≡◌, ℕ, List, length, ap, sym, subst, ◌∙◌, arith}
+use Rattle.std.proofs.Common.{◌≡◌, ℕ, Bool, List, length, ap, sym, subst, ◌∙◌, arith}
 use Rattle.std.specs.Arc.{arc_value}
 use Rattle.like_board.specs.Rule.{opened_coord}
 use Rattle.like_board.specs.Seats.{AreFresh, BoardId, board_id}
@@ -21,18 +21,20 @@ as-opened : (o : Opening) (factor : ℕ) (limits : Limits) (counts : List ℕ)
 as-opened o factor limits counts same are = λ m. opening_by factor (same m) o.seats (are m)
 
 -- a new driver and new seats of its board are an opened service
-opened : (o : Opening) (factor : ℕ) (board : BoardId) (told : List ℕ) (driver : DriverView) (seats : List LiveView)
+opened : (o : Opening) (factor : ℕ) (board : BoardId) (told : List ℕ) (finds : Bool) (driver : DriverView)
+    (seats : List LiveView)
     → IsWithinLimits o → IsFirstApart o.marks.items factor
-    → driver ≡ new_driver o factor board told → AreOpenedSeats o factor board seats
+    → driver ≡ new_driver o factor board told finds → AreOpenedSeats o factor board seats
     → AreOpened o driver seats
-opened o factor board told driver seats within first is new =
+opened o factor board told finds driver seats within first is new =
     let here : driver.lead.board ≡ board = ap (λ (d : DriverView). d.lead.board) is in
     let said : driver.splits.told ≡ told = ap (λ (d : DriverView). d.splits.told) is in
+    let may : driver.splits.finds ≡ finds = ap (λ (d : DriverView). d.splits.finds) is in
     record {
       within = within;
       factor = factor;
       first = first;
-      new = is ∙ (λ m. new_driver o factor (sym here m) (sym said m));
+      new = is ∙ (λ m. new_driver o factor (sym here m) (sym said m) (sym may m));
       fresh = subst (λ (b : BoardId). AreOpenedSeats o factor b seats) (sym here) new;
     }
 
@@ -75,9 +77,12 @@ new-requires-3-clause-new g c =
 
 pub returns-clause-opened : goal.returns-clause-opened
 returns-clause-opened g c =
-    opened c.args.opening.now c.factor-factor.result (board_id (arc_value c.in_ok-board-2.board)) _
+    opened c.args.opening.now c.factor-factor.result (board_id (arc_value c.in_ok-board-2.board)) _ _
     c.in_ok-driver.driver c.in_ok-seats.seats.items c.requires.within c.factor-factor.ensures c.in_ok-driver.ensures
     c.in_ok-seats.ensures
 
 pub returns-clause-told : goal.returns-clause-told
 returns-clause-told g c = ap (λ (d : DriverView). d.splits.told) c.in_ok-driver.ensures
+
+pub returns-clause-finds : goal.returns-clause-finds
+returns-clause-finds g c = ap (λ (d : DriverView). d.splits.finds) c.in_ok-driver.ensures

@@ -1,8 +1,7 @@
 use Rattle.std.proofs.Common.{◌+◌, List, ℕ, length, refl, sym, ap, ◌∙◌, subst, arith}
 use Rattle.like_board.specs.Seats.{coord_board, coord_view}
 use Rattle.like_board.specs.declared.coord_seat.CoordSeat.{CoordSeat}
-use Rattle.like_seat.specs.Lead.{PutsPages}
-use Rattle.like_seat.proofs.Choosing.{may-put, puts-more, puts-none, puts-unused}
+use Rattle.like_seat.proofs.Choosing.{PutsFirst, may-put, puts-all, puts-more, puts-none, puts-unused}
 use Rattle.like_seat.proofs.lead.slots.put_pages.Goals as goal
 use Rattle.like_seat.proofs.lead.slots.put_pages.Goals.{then-has_bit, else-has_bit}
 
@@ -35,18 +34,26 @@ loop-slot-preserved c =
     elim c.if-has_bit.branch [
       | then-has_bit w ↦ record {
         board = ap coord_board w.seat-is ∙ w.put_page.ensures.board ∙ l.invariant.board;
-        puts = subst (λ (s : CoordSeat). PutsPages first c.args.pages.now c.args.bits (l.slot + 1) (coord_view s))
+        puts = subst (λ (s : CoordSeat). PutsFirst first c.args.pages.now c.args.bits (l.slot + 1) (coord_view s))
             (sym w.seat-is)
             (puts-more first c.args.pages.now c.args.bits l.slot (coord_view l.seat) (coord_view w.put_page.new.seat)
-            l.invariant.puts w.put_page.ensures.puts c.loop-slot-test.true);
+            l.invariant.puts w.put_page.ensures.puts c.loop-slot-test.true
+            (sym c.has_bit.ensures ∙ w.if-has_bit.true));
         held = w.held-is ∙ w.put_page.ensures.held ∙ sym (ap (λ (s : CoordSeat). (coord_view s).slots) w.seat-is);
       }
       | else-has_bit w ↦ record {
         board = ap coord_board w.seat-is ∙ l.invariant.board;
-        puts = subst (λ (s : CoordSeat). PutsPages first c.args.pages.now c.args.bits (l.slot + 1) (coord_view s))
+        puts = subst (λ (s : CoordSeat). PutsFirst first c.args.pages.now c.args.bits (l.slot + 1) (coord_view s))
             (sym w.seat-is)
             (puts-unused first c.args.pages.now c.args.bits l.slot (coord_view l.seat) l.invariant.puts
             (sym c.has_bit.ensures ∙ w.if-has_bit.false));
         held = w.held-is ∙ l.invariant.held ∙ sym (ap (λ (s : CoordSeat). (coord_view s).slots) w.seat-is);
       }
     ]
+
+pub returns-clause-puts : goal.returns-clause-puts
+returns-clause-puts c =
+    let l = c.loop-slot in
+    puts-all (coord_view c.args.seat.now) c.args.pages.now c.args.bits (coord_view l.seat)
+    (subst (λ n. PutsFirst (coord_view c.args.seat.now) c.args.pages.now c.args.bits n (coord_view l.seat))
+    (omega (arith, l.invariant, c.loop-slot-test.false)) l.invariant.puts)

@@ -3,7 +3,7 @@ use Rattle.like_core.specs.OpeningLimits.{has_slots}
 use Rattle.like_core.specs.Slots.{IsChoice}
 use Rattle.like_core.specs.declared.view.CoordSeatView.{CoordSeatView}
 use Rattle.like_choice.specs.Slots.{Chooses, SlotsView}
-use Rattle.like_seat.specs.Lead.{MayPublishChoice, PublishesChoice}
+use Rattle.like_seat.specs.Lead.{MayPublishChoice, published_choice}
 use Rattle.like_live.specs.Splits.{AreSplitsOf, SplitsView}
 use Rattle.like_live.proofs.driver.splits.Splits.publish.Goals as goal
 
@@ -24,7 +24,7 @@ publish_choice-requires-clause-may g c =
     let new = c.choose.new.self in
     let same = c.choose.ensures.chooses.same in
     let inside : SplitsView =
-    record { slots = c.self.inside.slots; told = _; proposed = c.self.inside.proposed; held = c.self.inside.held } in
+    record { slots = c.self.inside.slots; told = _; finds = _; proposed = c.self.inside.proposed; held = c.self.inside.held } in
     let splits : AreSplitsOf seat inside =
     subst (λ (s : SplitsView). AreSplitsOf seat s) (sym c.self.view_is) c.requires.splits in
     let may : MayPublishChoice seat new.slots new.bits =
@@ -58,15 +58,17 @@ returns-clause-lawful g c = c.choose.ensures.lawful
 
 pub returns-clause-publishes : goal.returns-clause-publishes
 returns-clause-publishes g c =
-    let new = c.publish_choice.new.self in
-    subst (λ (xs : List ℕ). PublishesChoice c.args.lead.now xs c.choose.new.self.bits new) c.pages-2.ensures.pages
-    (subst (λ n. PublishesChoice c.args.lead.now c.pages-2.result.now n new) c.bits.ensures.bits c.publish_choice.ensures.publishes)
+    c.publish_choice.ensures.publishes
+    ∙ (λ m. published_choice c.args.lead.now (c.pages-2.ensures.pages m) (c.bits.ensures.bits m))
 
 pub returns-clause-held : goal.returns-clause-held
 returns-clause-held g c = c.publish_choice.ensures.held
 
 pub returns-clause-told : goal.returns-clause-told
 returns-clause-told g c = ap (λ (s : SplitsView). s.told) c.self.view_is
+
+pub returns-clause-finds : goal.returns-clause-finds
+returns-clause-finds g c = ap (λ (s : SplitsView). s.finds) c.self.view_is
 
 pub returns-clause-proposed : goal.returns-clause-proposed
 returns-clause-proposed g c = ap (λ (s : SplitsView). s.proposed) c.self.view_is

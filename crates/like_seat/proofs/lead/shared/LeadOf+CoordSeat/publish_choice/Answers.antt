@@ -1,11 +1,11 @@
-use Rattle.std.proofs.Common.{◌≡◌, ℕ, Some, length, min, get_or, arith, sym, ap, ◌∙◌, subst}
+use Rattle.std.proofs.Common.{◌≡◌, ℕ, List, Some, length, min, get_or, arith, sym, ap, ◌∙◌, subst}
 use Rattle.like_core.specs.declared.opening.Opening.{Opening}
 use Rattle.like_core.specs.declared.view.CoordSeatView.{CoordSeatView}
 use Rattle.like_limits.specs.Limits.{hot_pages}
 use Rattle.like_core.specs.Slots.{mask_of_slots}
 use Rattle.like_board.specs.Seats.{coord_board, coord_view}
-use Rattle.like_seat.specs.Lead.{LeadView, MayPublishChoice, PublishesChoice}
-use Rattle.like_seat.proofs.Choosing.{mask-held, may-publish_slots}
+use Rattle.like_seat.specs.Lead.{LeadView, MayPublishChoice, published_choice, slots_with}
+use Rattle.like_seat.proofs.Choosing.{mask-with, may-publish_slots}
 use Rattle.like_seat.proofs.lead.shared.LeadOf+CoordSeat.publish_choice.Goals as goal
 
 pub put_pages-requires-clause-may : goal.put_pages-requires-clause-may
@@ -26,25 +26,24 @@ publish_slots-requires-clause-may c =
 pub invariant_of-self : goal.invariant_of-self
 invariant_of-self c =
     let same = ap (λ (d : CoordSeatView). d.opening) c.publish_slots.ensures.view
-    ∙ ap (λ (d : CoordSeatView). d.opening) c.put_pages.ensures.puts.rest in
+    ∙ ap (λ (d : CoordSeatView). d.opening) c.put_pages.ensures.puts in
     c.self.invariant ∙ sym (ap (λ (z : Opening). min hot_pages (length z.counts)) same)
 
 pub returns-clause-publishes : goal.returns-clause-publishes
 returns-clause-publishes c =
     let inside = c.self.inside in
     let known = coord_view inside.seat in
+    let pages = c.args.pages.now in
     let put = coord_view c.put_pages.new.seat in
     let last = coord_view c.publish_slots.new.self in
     let puts = c.put_pages.ensures.puts in
-    let view = c.publish_slots.ensures.view in
-    let slots = ap (λ (d : CoordSeatView). d.slots) view in
-    let mask : ℕ = mask_of_slots (λ i. get_or c.args.pages.now i 0) c.args.bits hot_pages in
-    let same = mask-held put.slots c.args.pages.now c.args.bits hot_pages puts.holds in
-    let seat : last ≡ record known { slots = last.slots; published = Some mask } =
-    view ∙ (λ m. record (puts.rest m) { published = Some (same m) })
-    ∙ (λ m. record known { slots = sym slots m; published = Some mask }) in
-    let v : LeadView =
-    record { board = coord_board inside.seat; seat = known; hot = inside.hot; before = inside.before.items } in
+    let slots : List ℕ = slots_with known.slots pages c.args.bits in
+    let mask : ℕ = mask_of_slots (λ i. get_or pages i 0) c.args.bits hot_pages in
+    let same : mask_of_slots (λ i. get_or put.slots i 0) c.args.bits hot_pages ≡ mask =
+    ap (λ (d : CoordSeatView). mask_of_slots (λ i. get_or d.slots i 0) c.args.bits hot_pages) puts
+    ∙ mask-with known.slots pages c.args.bits in
+    let seat : last ≡ record known { slots = slots; published = Some mask } =
+    c.publish_slots.ensures.view ∙ (λ m. record (puts m) { published = Some (same m) }) in
     let after : LeadView =
     record {
       board = coord_board c.publish_slots.new.self;
@@ -52,15 +51,11 @@ returns-clause-publishes c =
       hot = inside.hot;
       before = inside.before.items;
     } in
-    subst (λ (x : LeadView). PublishesChoice x c.args.pages.now c.args.bits after) c.self.view_is (record {
-      all = ap (λ (d : CoordSeatView). length d.slots) view ∙ puts.all;
-      holds = λ slot below used. ap (λ (d : CoordSeatView). get_or d.slots slot 0) view ∙ puts.holds slot below used;
-      rest = λ m. record {
-        board = (c.publish_slots.ensures.board ∙ c.put_pages.ensures.board) m;
-        seat = seat m;
-        hot = inside.hot;
-        before = inside.before.items;
-      };
+    subst (λ (x : LeadView). after ≡ published_choice x pages c.args.bits) c.self.view_is (λ m. record {
+      board = (c.publish_slots.ensures.board ∙ c.put_pages.ensures.board) m;
+      seat = seat m;
+      hot = inside.hot;
+      before = inside.before.items;
     })
 
 pub returns-clause-held : goal.returns-clause-held
