@@ -29,9 +29,9 @@ use Rattle.like_core.specs.views.Shows.{FitsCoord, FitsWorker, Shows, ShowsSome}
 use Rattle.like_core.proofs.core.Moved.{moved_in_phase}
 use Rattle.like_core.proofs.word.Serving.{coord_sees, serves, worker_sees}
 use Rattle.like_board.specs.Known.{coord_view_of}
-use Rattle.like_board.specs.Own.{ShowsPhase, ShowsWorkers}
+use Rattle.like_board.specs.Own.{IsPresentCount, ShowsPhase, ShowsWorkers}
 use Rattle.like_board.specs.Plays.{coord_sight_at, sight_at}
-use Rattle.like_board.proofs.worker.Moves.{moment_of}
+use Rattle.like_board.proofs.worker.Moves.{coord_opens, moment_of}
 
 -- a worker's look shows the phase and its end, as the coordinator knows them
 pub shows_phase : (z : Opening) (words : List ℕ) (views : List View) (place : ℕ) (v : WorkerSeatView)
@@ -182,7 +182,8 @@ shows_workers z words views c some_state at made none =
 pub present_count : (z : Opening) (words : List ℕ) (views : List View) (page : ℕ)
     → ShowsSome z words views
     → page < length z.counts
-    → get_or words (word_of page) 0 ≡ count_after z.counts views page
-present_count z words views page some_state below =
+    → IsPresentCount views page (get_or words (word_of page) 0)
+present_count z words views page some_state below c first =
     some_state.shows.board.pages page below
     ∙ ap (λ n. slice_index z.counts page + n) (applied_now z (moment_of z words views some_state) page)
+    ∙ ap (λ (y : Opening). count_after y.counts views page) (sym (coord_opens z words views 0 c some_state first))

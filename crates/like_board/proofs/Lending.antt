@@ -1,5 +1,5 @@
--- What is lent to a post comes back, and its looks are fresh.
-use Rattle.std.proofs.Common.{◌≡◌, ℕ, zero, suc, ◌<◌, ◌≤◌, List, [], ◌∷◌, ◌++◌, length, drop, slice_set, refl, subst, ap, sym, ◌∙◌, arith}
+-- What is lent to a post comes back; its looks are fresh, and its steps find the counts of pages.
+use Rattle.std.proofs.Common.{◌≡◌, ℕ, zero, suc, ◌+◌, ◌<◌, ◌≤◌, List, [], ◌∷◌, ◌++◌, length, drop, slice_set, refl, subst, ap, sym, ◌∙◌, arith}
 use Rattle.std.specs.Prelude.{All}
 use Rattle.std.proofs.lemmas.List.{append_assoc, length-append}
 use Rattle.std.proofs.lemmas.List.Elements.{All-append, All-cons, All-nil}
@@ -7,11 +7,18 @@ use base.Stored.{Gv, gnil, gnum, gcons}
 use mathlib.Core.Option.{Option, some, some-ne-none}
 use lib.ListN.{get_elem?}
 use Rattle.atomic_table.proofs.Lists.{set_again, set_else, set_here}
+use Rattle.like_core.specs.declared.page_step.PageStep.{PageStep}
 use Rattle.like_core.specs.declared.view.Look.{Look}
 use Rattle.like_core.specs.declared.view.View.{View}
-use Rattle.like_core.specs.declared.view.View.TheVariants.{Spent}
+use Rattle.like_core.specs.declared.view.View.TheVariants.{Spent, Worker}
 use Rattle.like_core.specs.declared.view.WorkerSeatView.{WorkerSeatView}
-use Rattle.like_board.specs.Lent.{HasLooked, ShowsBy, lent_board, lent_code, numbers_of}
+use Rattle.like_core.specs.PageSteps.{likes_in}
+use Rattle.like_core.specs.views.Places.{count_after}
+use Rattle.like_core.proofs.Totals.{added-in}
+use Rattle.like_core.proofs.views.ViewLists.{sum_swap}
+use Rattle.like_core.proofs.views.ViewSums.{added_posts, paged}
+use Rattle.like_board.specs.Lent.{HasFound, HasLooked, ShowsBy, lent_board, lent_code, numbers_of}
+use Rattle.like_board.specs.Own.{IsPresentCount}
 
 -- numbers tell the value that they are of, and what follows them
 numbers_tell : (a b : Gv) (r s : List ℕ) → numbers_of a ++ r ≡ numbers_of b ++ s → (a ≡ b) × (r ≡ s)
@@ -32,7 +39,7 @@ numbers_tell (gcons a b) gnil r s same = absurd (cc)
 numbers_tell (gcons a b) (gnum m) r s same = absurd (cc)
 
 -- the last of two settings of a place counts
-set_twice : {A : Type 0} (l : List A) (i : ℕ) (x y : A) → slice_set (slice_set l i x) i y ≡ slice_set l i y
+pub set_twice : {A : Type 0} (l : List A) (i : ℕ) (x y : A) → slice_set (slice_set l i x) i y ≡ slice_set l i y
 set_twice [] i x y = refl
 set_twice (z ∷ l) zero x y = refl
 set_twice (z ∷ l) (suc i) x y = λ m. z ∷ set_twice l i x y m
@@ -123,3 +130,56 @@ looked_more first next before v w look same looks shows has =
           (All-append (λ k. ShowsBy first k.sight) (drop (length before.looks) v.looks) (look ∷ []) has.fresh
           (All-cons (λ k. ShowsBy first k.sight) look [] shows (All-nil (λ k. ShowsBy first k.sight))))));
     }
+
+-- a page's count is the one when a seat knew this, and what the seat has added since
+count_since : (counts : List ℕ) (views : List View) (place page : ℕ) (v before : WorkerSeatView)
+    → get_elem? views place ≡ some (Worker v)
+    → count_after counts views page + likes_in page before.did
+    ≡ count_after counts (slice_set views place (Worker before)) page + likes_in page v.did
+count_since counts views place page v before at =
+    let was : List View = slice_set views place (Worker before) in
+    let swap = sum_swap (paged page) views place (Worker v) (Worker before) at in
+    let now = added_posts page views in
+    let then_ = added_posts page was in
+    let mine = added-in page v.did in
+    let old = added-in page before.did in
+    omega (arith, swap, now, then_, mine, old)
+
+-- at first nothing was found
+pub found_none : (views : List View) (v : WorkerSeatView) → HasFound views v v
+found_none views v c later earlier s first split past =
+    let whole = ap (λ (l : List PageStep). length l) split in
+    let both = length-append later (s ∷ earlier) in
+    absurd (omega (arith, whole, both, past))
+
+-- a step that is none at a page leaves what was found since then
+pub found_same : (views : List View) (before v w : WorkerSeatView)
+    → w.did ≡ v.did
+    → HasFound views before v
+    → HasFound views before w
+found_same views before v w same has c later earlier s first split = has c later earlier s first (sym same ∙ split)
+
+-- one that finds its page's count goes on with it
+pub found_more : (views : List View) (place : ℕ) (before v w : WorkerSeatView) (step : PageStep)
+    → 1 ≤ place
+    → get_elem? views place ≡ some (Worker v)
+    → w.did ≡ step ∷ v.did
+    → IsPresentCount views step.page step.found
+    → HasFound (slice_set views place (Worker before)) before v
+    → HasFound (slice_set views place (Worker before)) before w
+found_more views place before v w step other at did present has c [] earlier s first split past =
+    let both : step ∷ v.did ≡ s ∷ earlier = sym did ∙ split in
+    let same : step ≡ s = cc both in
+    let rest : v.did ≡ earlier = cc both in
+    let found = present c (sym (first_after views _ place (Worker before) other refl) ∙ first) in
+    let since = count_since c.opening.counts views place step.page v before at in
+    let here : step.found + likes_in step.page before.did
+    ≡ count_after c.opening.counts (slice_set views place (Worker before)) step.page + likes_in step.page v.did =
+    omega (arith, found, since) in
+    ap (λ (x : PageStep). x.found + likes_in x.page before.did) (sym same) ∙ here
+    ∙ (λ m. count_after c.opening.counts (slice_set views place (Worker before)) (same m).page
+    + likes_in (same m).page (rest m))
+found_more views place before v w step other at did present has c (x ∷ later) earlier s first split past =
+    let both : step ∷ v.did ≡ x ∷ (later ++ s ∷ earlier) = sym did ∙ split in
+    let rest : v.did ≡ later ++ s ∷ earlier = cc both in
+    has c later earlier s first rest past

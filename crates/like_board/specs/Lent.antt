@@ -1,14 +1,18 @@
 -- What a post at a board that one thread owns is told by numbers: what all other seats know, its own place, and what its
 -- own seat knew when the board was lent to it.
-use Rattle.std.specs.Prelude.{◌≡◌, ℕ, ◌≤◌, All, List, [], ◌∷◌, ◌++◌, drop, length, slice_set}
+use Rattle.std.specs.Prelude.{◌≡◌, ℕ, ◌+◌, ◌≤◌, All, List, [], ◌∷◌, ◌++◌, drop, length, slice_set}
 use base.Stored.{Gv, gnil, gnum, gcons, Coded, coded_list, coded×, coded_ℕ}
 use mathlib.Core.Option.{Option, some}
+use lib.ListN.{get_elem?}
+use Rattle.like_core.specs.declared.page_step.PageStep.{PageStep}
 use Rattle.like_core.specs.declared.sight.Sight.{Sight}
 use Rattle.like_core.specs.declared.view.WorkerSeatView.{WorkerSeatView}
 use Rattle.like_core.specs.declared.view.CoordSeatView.{CoordSeatView}
 use Rattle.like_core.specs.declared.view.View.{View}
 use Rattle.like_core.specs.declared.view.View.TheVariants.{Coord, Spent}
 use Rattle.like_core.specs.contracts.view.View.{the_row}
+use Rattle.like_core.specs.PageSteps.{likes_in}
+use Rattle.like_core.specs.views.Places.{count_after}
 
 -- a value of the logic, written as numbers
 unfoldable pub numbers_of : Gv → List ℕ
@@ -23,6 +27,14 @@ lent_code = coded× (coded_list the_row.coded) (coded× coded_ℕ the_row.coded)
 -- what all other seats know, the seat's place, and what it knew
 abbrev pub lent_board : List View → ℕ → View → List ℕ
 lent_board views place before = numbers_of (lent_code.code (slice_set views place Spent, (place, before)))
+
+-- each step that a worker made at a page since its seat knew this found the page's count: the one when all seats knew
+-- these, and what the worker had added since
+abbrev pub HasFound : List View → WorkerSeatView → WorkerSeatView → Type 0
+HasFound views before now =
+    (c : CoordSeatView) (later earlier : List PageStep) (s : PageStep)
+    → get_elem? views 0 ≡ some (Coord c) → now.did ≡ later ++ s ∷ earlier → length before.did ≤ length earlier
+    → s.found + likes_in s.page before.did ≡ count_after c.opening.counts views s.page + likes_in s.page earlier
 
 -- a sight shows the phase that the coordinator knows, who has the first seat, and whether it is ending
 abbrev pub ShowsBy : Option View → Sight → Type 0

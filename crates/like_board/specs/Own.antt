@@ -61,9 +61,11 @@ pub record ShowsWorkers (phase : ℕ) (views : List View) (sight : CoordSight) :
   pub all_gone : (sight.all_gone ≡ true)
       ↔ ((place : ℕ) (v : WorkerSeatView) → get_elem? views place ≡ some (Worker v) → v.state ≡ Gone)
 
--- a page's count that was found is the one at the start and all that the seats have added by then
-abbrev pub IsPresentCount : OwnBoard → ℕ → ℕ → Type 0
-IsPresentCount board page count = count ≡ count_after (own_opening board).counts (own_views board) page
+-- a page's count that was found is the one at the start, as the coordinator knows it, and all that the seats have added
+-- by then
+abbrev pub IsPresentCount : List View → ℕ → ℕ → Type 0
+IsPresentCount views page count =
+    (c : CoordSeatView) → get_elem? views 0 ≡ some (Coord c) → count ≡ count_after c.opening.counts views page
 
 -- the seats of a board's workers, in order; none has made a step yet
 abbrev pub AreNewOwn : OwnBoard → List OwnWorkerSeat → Type 0

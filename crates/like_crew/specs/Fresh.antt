@@ -1,12 +1,19 @@
 -- Fresh looks: each shows what is so at that moment.
-use Rattle.std.specs.Prelude.{◌≡◌, ◌≢◌, ◌↔◌, ℕ, Bool, true, List, slice_get, Some, All, IsSomeAnd}
+use Rattle.std.specs.Prelude.{◌≡◌, ◌≢◌, ◌↔◌, ℕ, Bool, true, List, ◌∷◌, map, slice_get, Some, All, IsSomeAnd}
 use Rattle.like_core.specs.declared.sight.CoordSight.{CoordSight}
+use Rattle.like_core.specs.declared.view.CoordSeatView.{CoordSeatView}
+use Rattle.like_core.specs.declared.view.View.{View}
+use Rattle.like_core.specs.declared.view.View.TheVariants.{Coord, Worker}
 use Rattle.like_core.specs.declared.worker_state.WorkerState.TheVariants.{Gone}
 use Rattle.like_core.specs.WorkerState.{IsIn}
 use Rattle.like_queue.specs.Inbox.{InboxView, item_count}
 use Rattle.like_ending.specs.FreshTurns.{FreshTurns}
 use Rattle.like_crew.specs.Progress.{progress_of}
 use Rattle.like_crew.specs.Server.{ServerView}
+
+-- what all seats know: the coordinator's, and then each server's
+abbrev pub views_with : CoordSeatView → List ServerView → List View
+views_with c servers = Coord c ∷ map (λ s. Worker s.worker.post) servers
 
 -- the look of a worker's turn shows this phase, and whether it is ending. A worker that is gone doesn't look
 abbrev pub LooksFresh : ℕ → Bool → ServerView → ServerView → Type 0

@@ -1,10 +1,10 @@
 -- A crew whose thread owns its board.
-use Rattle.std.specs.Prelude.{◌≡◌, ℕ, ◌+◌, List, ◌∷◌, map, slice_get, Some}
+use Rattle.std.specs.Prelude.{◌≡◌, ℕ, ◌+◌, List, map, slice_get, Some}
 use Rattle.like_core.specs.declared.view.CoordSeatView.{CoordSeatView}
 use Rattle.like_core.specs.declared.view.View.{View}
-use Rattle.like_core.specs.declared.view.View.TheVariants.{Coord, Worker}
 use Rattle.like_board.specs.declared.own_board.worker_seat.OwnWorkerSeat.{OwnWorkerSeat}
 use Rattle.like_board.specs.Own.{own_place, own_view}
+use Rattle.like_crew.specs.Fresh.{views_with}
 use Rattle.like_crew.specs.OwnServer.{OwnServerView}
 use Rattle.like_crew.specs.Server.{ServerView}
 
@@ -13,7 +13,7 @@ servers_of owned = map (λ s. s.server) owned
 
 -- the seats of a board with these views are the coordinator's, which knows this, and those of the servers, in order
 pub record AreSeated (views : List View) (c : CoordSeatView) (owned : List OwnServerView) : Type 0 where
-  pub views_are : views ≡ Coord c ∷ map (λ s. Worker s.worker.post) (servers_of owned)
+  pub views_are : views ≡ views_with c (servers_of owned)
   pub places : (worker : ℕ) (s : OwnServerView) → slice_get owned worker ≡ Some s → s.place ≡ worker + 1
 
 -- the seat that a server leaves

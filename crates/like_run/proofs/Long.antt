@@ -15,6 +15,7 @@ use Rattle.like_ending.proofs.Sums.{set_same}
 use Rattle.like_crew.specs.Crew.{CrewView, IsNewCrew}
 use Rattle.like_crew.specs.Fresh.{AllOpen}
 use Rattle.like_crew.specs.Progress.{items_of, progress_of}
+use Rattle.like_crew.specs.Steps.{Makes, MakesAll}
 use Rattle.like_crew.proofs.Progress.{progress_in, progress_with}
 use Rattle.like_crew.proofs.Rounds.{leads-modelled, round-goes-on, round-modelled}
 use Rattle.like_crew.proofs.Starting.{new-items, new-start, new-turns, new-workers}
@@ -22,7 +23,7 @@ use Rattle.like_crew.proofs.servers.Turning.{all-opened, opened-one}
 use Rattle.like_run.specs.declared.rounds.fault.ReplayFault.{ReplayFault}
 use Rattle.like_run.specs.declared.rounds.fault.ReplayFault.TheVariants.{Settings, Memory, Unfinished}
 use Rattle.like_run.specs.Rounds.{HasNotEnded, IsReplayFaultUnderWay, IsUnfinished}
-use Rattle.like_run.specs.Script.{Makes, MakesAll, MakesRounds, Plays}
+use Rattle.like_run.specs.Script.{MakesRounds, Plays}
 
 -- who has a turn by a script: opening a list is nobody's
 abbrev participants : List Turned → List Participant

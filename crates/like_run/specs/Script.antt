@@ -1,30 +1,14 @@
 -- How a replay follows its script.
-use Rattle.std.specs.Prelude.{◌≡◌, ◌<◌, ℕ, zero, suc, false, true, List, [], ◌∷◌}
+use Rattle.std.specs.Prelude.{◌≡◌, ◌<◌, ℕ, zero, suc, false, true, List}
 use Rattle.std.specs.List.{AllZip}
 use Rattle.like_requests.specs.declared.script.Turned.{Turned}
-use Rattle.like_requests.specs.declared.script.Turned.TheVariants.{OpenOne, Worker, Coordinator}
 use Rattle.like_crew.specs.Crew.{CrewView, GoesOn}
-use Rattle.like_roles.specs.declared.coord_turn.CoordTurn.{CoordTurn}
 use Rattle.like_crew.specs.declared.outcome.Outcome.{Outcome}
 use Rattle.like_crew.specs.Outcome.{IsOutcome}
 use Rattle.like_crew.specs.ServerTurns.{OpensAll}
-use Rattle.like_crew.specs.Steps.{AtServer, FreshRound, LeadsFresh, MakesFreshTurn, OpensMore}
+use Rattle.like_crew.specs.Steps.{FreshRound, MakesAll}
 
--- an entry of a script is made: one item more of a submitter's list is open to its worker, or a worker makes a whole turn,
--- or the coordinator makes one; and all else is the same. Each look shows what all turns before have left
-abbrev pub Makes : Turned → CrewView → CrewView → Type 0
-Makes (OpenOne submitter) c d =
-    OpensMore submitter c.servers d.servers × (d.coordinator ≡ c.coordinator)
-Makes (Worker worker) c d =
-    AtServer worker (MakesFreshTurn c.coordinator.seat) c.servers d.servers × (d.coordinator ≡ c.coordinator)
-Makes Coordinator c d = (answer : CoordTurn) × LeadsFresh answer c d
-
--- entries are made one after the other
-abbrev pub MakesAll : List Turned → CrewView → CrewView → Type 0
-MakesAll [] c d = d ≡ c
-MakesAll (entry ∷ script) c d = (next : CrewView) × (Makes entry c next × MakesAll script next d)
-
--- this many rounds are made, whose looks are fresh, and with none of which the run ends
+-- this many rounds are made, with none of which the run ends
 abbrev pub MakesRounds : ℕ → CrewView → CrewView → Type 0
 MakesRounds zero c d = d ≡ c
 MakesRounds (suc n) c d = (next : CrewView) × (FreshRound false c next × MakesRounds n next d)

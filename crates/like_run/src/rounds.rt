@@ -5,9 +5,10 @@ ghost use Rattle.like_requests.specs.Script.{IsInRun};
 ghost use Rattle.like_limits.specs.Limits.{max_entries};
 ghost use Rattle.like_promises.specs.Workload.{lists_of};
 ghost use Rattle.like_crew.specs.Crew.{AreGone, GoesOn};
+ghost use Rattle.like_crew.specs.Steps.{Makes, MakesAll};
 ghost use Rattle.like_promises.specs.Report.{IsReportOf};
 ghost use Rattle.like_run.specs.Rounds.{CanMake, CanReplayScript, HasNotEnded, IsReplayFaultUnderWay, IsReplayFault, IsUnfinished, ReportFollows};
-ghost use Rattle.like_run.specs.Script.{EndsInTime, FollowsScript, Makes, MakesAll, MakesMostRounds};
+ghost use Rattle.like_run.specs.Script.{EndsInTime, FollowsScript, MakesMostRounds};
 
 use like_crew::{Outcome, OwnCrew, report_of, sizes_of};
 use like_promises::Report;

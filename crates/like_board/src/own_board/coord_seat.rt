@@ -92,7 +92,7 @@ impl OwnCoordSeat {
         ensures known { IsKnown (own_coord self.old).opening (Coord (own_coord self.new)) }
         ensures event { Counts (own_coord self.old) page result (own_coord self.new) }
         ensures board { Steps board.old board.new 0 (Coord (own_coord self.new)) }
-        ensures present { IsPresentCount board.old page result }
+        ensures present { IsPresentCount (own_views board.old) page result }
     {
         board.table.tell();
         let word = word_of(page);

@@ -111,7 +111,7 @@ impl OwnWorkerSeat {
         ensures own { added_to page (additions_among (own_view self.old).did) ≤ result }
         ensures event { Adds (own_view self.old) page n result (own_view self.new) }
         ensures board { Steps board.old board.new (own_place self.old) (Worker (own_view self.new)) }
-        ensures present { IsPresentCount board.old page result }
+        ensures present { IsPresentCount (own_views board.old) page result }
     {
         board.table.tell();
         let word = word_of(page);
@@ -129,7 +129,7 @@ impl OwnWorkerSeat {
         ensures own { added_to page (additions_among (own_view self.old).did) ≤ result }
         ensures event { Reads (own_view self.old) page result (own_view self.new) }
         ensures board { Steps board.old board.new (own_place self.old) (Worker (own_view self.new)) }
-        ensures present { IsPresentCount board.old page result }
+        ensures present { IsPresentCount (own_views board.old) page result }
     {
         board.table.tell();
         let word = word_of(page);

@@ -19,12 +19,11 @@ use Rattle.like_roles.specs.worker.Turns.{Gives, Turns, Works, held_from, saw, s
 use Rattle.like_roles.specs.worker.WorkerView.{WorkerView}
 use Rattle.like_roles.proofs.Effects.{Runs-effects}
 use Rattle.like_ending.specs.FreshTurns.{FreshTurns}
-use Rattle.like_crew.specs.Fresh.{AllOpen}
+use Rattle.like_crew.specs.Fresh.{AllOpen, LooksFresh}
 use Rattle.like_crew.specs.Progress.{progress_of}
 use Rattle.like_crew.specs.Server.{ServerView}
 use Rattle.like_crew.specs.ServerTurns as server
-use Rattle.like_crew.specs.ServerTurns.{OpensAll, OpensOne, ServerTurns, rank_at}
-use Rattle.like_crew.specs.Steps.{MakesFreshTurn}
+use Rattle.like_crew.specs.ServerTurns.{IsTurn, OpensAll, OpensOne, ServerTurns, rank_at}
 use Rattle.like_crew.proofs.lists.Stepped.{slice_get-set_other, slice_get-set_same}
 use Rattle.like_crew.proofs.servers.Agreeing.{plan-taken}
 use Rattle.like_crew.proofs.servers.Sights.{running_here}
@@ -140,38 +139,42 @@ all-opened (s ∷ ss) (t ∷ ts) all =
     let others = all-opened ss ts all.1 in
     (λ m. first.0 m ∷ others.0 m, All-cons AllOpen t ts first.1 others.1)
 
+-- a turn whose look shows what the coordinator's seat knows
+abbrev pub TurnsBy : CoordSeatView → ServerView → ServerView → Type 0
+TurnsBy c s t = (answer : Turn) × (IsTurn answer s t × LooksFresh c.phase c.ending s t)
+
 pub all-stay-open : (c : CoordSeatView) (ss ts : List ServerView)
     → All AllOpen ss
-    → AllZip (MakesFreshTurn c) ss ts
+    → AllZip (TurnsBy c) ss ts
     → All AllOpen ts
 all-stay-open c [] [] open_all turns = λ k d there. absurd (omega (arith, there))
 all-stay-open c [] (t ∷ ts) open_all turns = absurd turns
 all-stay-open c (s ∷ ss) [] open_all turns = absurd turns
 all-stay-open c (s ∷ ss) (t ∷ ts) open_all turns =
-    All-cons AllOpen t ts (stays-open turns.0.0 s t (open_all 0 s (omega arith)) turns.0.1.turn.whole)
+    All-cons AllOpen t ts (stays-open turns.0.0 s t (open_all 0 s (omega arith)) turns.0.1.0.whole)
     (all-stay-open c ss ts (λ k d there. open_all (suc k) d (omega (arith, there))) turns.1)
 
 pub all-stay-gone : (c : CoordSeatView) (ss ts : List ServerView)
     → All (λ s. s.worker.post.state ≡ state.Gone) ss
-    → AllZip (MakesFreshTurn c) ss ts
+    → AllZip (TurnsBy c) ss ts
     → All (λ s. s.worker.post.state ≡ state.Gone) ts
 all-stay-gone c [] [] gone turns = λ k d there. absurd (omega (arith, there))
 all-stay-gone c [] (t ∷ ts) gone turns = absurd turns
 all-stay-gone c (s ∷ ss) [] gone turns = absurd turns
 all-stay-gone c (s ∷ ss) (t ∷ ts) gone turns =
     All-cons (λ (x : ServerView). x.worker.post.state ≡ state.Gone) t ts
-    (stays-gone turns.0.0 s t (gone 0 s (omega arith)) turns.0.1.turn.whole)
+    (stays-gone turns.0.0 s t (gone 0 s (omega arith)) turns.0.1.0.whole)
     (all-stay-gone c ss ts (λ k d there. gone (suc k) d (omega (arith, there))) turns.1)
 
 -- the turns of a round, with all lists open, are the model's
 pub all-modelled : (c : CoordSeatView) (ss ts : List ServerView)
     → All AllOpen ss
-    → AllZip (MakesFreshTurn c) ss ts
+    → AllZip (TurnsBy c) ss ts
     → AllZip (FreshTurns true c.phase c.ending) (map progress_of ss) (map progress_of ts)
 all-modelled c [] [] open_all turns = tt
 all-modelled c [] (t ∷ ts) open_all turns = absurd turns
 all-modelled c (s ∷ ss) [] open_all turns = absurd turns
 all-modelled c (s ∷ ss) (t ∷ ts) open_all turns = (
-  turns.0.1.turn.modelled true c.phase c.ending (λ _. open_all 0 s (omega arith)) turns.0.1.fresh,
+  turns.0.1.0.modelled true c.phase c.ending (λ _. open_all 0 s (omega arith)) turns.0.1.1,
   all-modelled c ss ts (λ k d there. open_all (suc k) d (omega (arith, there))) turns.1,
 )

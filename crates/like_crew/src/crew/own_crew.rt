@@ -10,7 +10,7 @@ ghost use Rattle.like_crew.specs.Crew.{AreGone, GoesOn, HasInbox, IsCrewAt, IsNe
 ghost use Rattle.like_crew.specs.Outcome.{IsOutcome};
 ghost use Rattle.like_crew.specs.Server.{ServerView};
 ghost use Rattle.like_crew.specs.ServerTurns.{OpensAll, OpensOne, rank_at};
-ghost use Rattle.like_crew.specs.Steps.{AtServer, FreshRound, IsFreshTurn, LeadsFresh, MakesFreshTurn, OpensMore};
+ghost use Rattle.like_crew.specs.Steps.{AtServer, FreshRound, IsFreshTurn, LeadsFresh, MakesFreshTurn, MakesTurns, OpensMore};
 
 use crate::crew::list_inboxes;
 use crate::crew::own_servers::{finish_own, own_servers};
@@ -105,8 +105,7 @@ impl OwnCrew {
     /// Makes one turn of a worker.
     pub fn turn_of(&mut self, worker: u32) -> Turn
         requires { worker < length self.old.servers }
-        ensures case { AtServer worker
-            (IsFreshTurn self.old.coordinator.seat result) self.old.servers self.new.servers }
+        ensures case { AtServer worker (IsFreshTurn self.old result) self.old.servers self.new.servers }
         ensures rest { self.new.coordinator ≡ self.old.coordinator }
         ensures goes_on { GoesOn self.old self.new }
     {
@@ -175,7 +174,7 @@ impl OwnCrew {
 
     // Makes one turn of each worker, in order, and says whether all are gone.
     fn turns(&mut self) -> bool
-        ensures turns { AllZip (MakesFreshTurn self.old.coordinator.seat) self.old.servers self.new.servers }
+        ensures turns { MakesTurns self.old self.new }
         ensures rest { self.new.coordinator ≡ self.old.coordinator }
         ensures goes_on { GoesOn self.old self.new }
         ensures gone { (result ≡ true) ↔ AreGone self.new.servers }
@@ -192,7 +191,7 @@ impl OwnCrew {
     // Makes one turn of a worker, and says whether it is gone.
     fn retires(&mut self, worker: usize) -> bool
         requires { worker < length self.old.servers }
-        ensures case { AtServer worker (λ s t. MakesFreshTurn self.old.coordinator.seat s t
+        ensures case { AtServer worker (λ s t. MakesFreshTurn self.old s t
             × ((result ≡ true) ↔ (t.worker.post.state ≡ Gone))) self.old.servers self.new.servers }
         ensures rest { self.new.coordinator ≡ self.old.coordinator }
         ensures goes_on { GoesOn self.old self.new }
@@ -206,7 +205,7 @@ impl OwnCrew {
     // Makes one turn of a worker.
     fn turn_at(&mut self, worker: usize) -> Turn
         requires { worker < length self.old.servers }
-        ensures case { AtServer worker (λ s t. IsFreshTurn self.old.coordinator.seat result s t
+        ensures case { AtServer worker (λ s t. IsFreshTurn self.old result s t
             × (result ≡ Turn.Retired → t.worker.post.state ≡ Gone)) self.old.servers self.new.servers }
         ensures rest { self.new.coordinator ≡ self.old.coordinator }
         ensures goes_on { GoesOn self.old self.new }

@@ -4,7 +4,7 @@ ghost use lib.ListN.{get_elem?};
 ghost use Rattle.like_core.specs.declared.view.CoordSeatView.{CoordSeatView};
 ghost use Rattle.like_core.specs.declared.view.View.TheVariants.{Coord, Worker};
 ghost use Rattle.like_core.specs.declared.worker_state.WorkerState.TheVariants.{Gone};
-ghost use Rattle.like_board.specs.Lent.{HasLooked};
+ghost use Rattle.like_board.specs.Lent.{HasFound, HasLooked};
 ghost use Rattle.like_board.specs.Own.{own_place, own_view, own_views, Knows};
 ghost use Rattle.like_promises.specs.Workload.{Workload};
 ghost use Rattle.like_requests.specs.Setup.{IsWithin};
@@ -75,8 +75,8 @@ impl<I: Inbox> OwnServer<I> {
         Ok(OwnServer { seat, serving })
     }
 
-    /// Makes one whole turn of the worker, to which the board is lent. What all other seats know stays as it was, and its
-    /// look shows the phase as the coordinator knows it.
+    /// Makes one whole turn of the worker, to which the board is lent. What all other seats know stays as it was, its look
+    /// shows the phase as the coordinator knows it, and its steps at pages find what all seats have added by then.
     pub fn turn<G: Gate, R>(&mut self, rt: &R, gate: &G, board: &mut OwnBoard) -> Turn
     where
         I: TakeWith<R>,
@@ -90,6 +90,7 @@ impl<I: Inbox> OwnServer<I> {
             → LooksFresh c.phase c.ending self.old.server self.new.server }
         ensures looked { HasLooked (get_elem? (own_views board.old) 0) self.old.server.worker.post
             self.new.server.worker.post }
+        ensures found { HasFound (own_views board.old) self.old.server.worker.post self.new.server.worker.post }
         ensures place { self.new.place ≡ self.old.place }
         ensures views { own_views board.new
             ≡ slice_set (own_views board.old) self.old.place (Worker self.new.server.worker.post) }

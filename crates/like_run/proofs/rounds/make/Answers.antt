@@ -1,7 +1,7 @@
 use Rattle.std.proofs.Common.{sym, subst}
 use Rattle.like_requests.specs.declared.script.Turned.{Turned}
+use Rattle.like_crew.specs.Steps.{Makes}
 use Rattle.like_run.specs.Rounds.{CanMake}
-use Rattle.like_run.specs.Script.{Makes}
 use Rattle.like_run.proofs.rounds.make.Goals as goal
 
 pub open_one-requires : goal.open_one-requires

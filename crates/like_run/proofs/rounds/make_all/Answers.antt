@@ -2,10 +2,10 @@ use Rattle.std.proofs.Common.{◌≡◌, List, get_or, take, refl, sym, subst}
 use Rattle.std.proofs.lemmas.List.{take_all, take_more}
 use Rattle.like_requests.specs.declared.script.Turned.{Turned}
 use Rattle.like_requests.specs.declared.script.Turned.TheVariants.{OpenOne}
+use Rattle.like_crew.specs.Steps.{MakesAll}
 use Rattle.like_crew.proofs.Coordinated.{crew-further, crew-same}
-use Rattle.like_run.specs.Script.{MakesAll}
+use Rattle.like_crew.proofs.Rounds.{makes-more}
 use Rattle.like_run.proofs.Entries.{can-make-later}
-use Rattle.like_run.proofs.Scripts.{makes-more}
 use Rattle.like_run.proofs.rounds.make_all.Goals as goal
 
 pub loop-entry-init : goal.loop-entry-init

@@ -1,6 +1,6 @@
 use Rattle.std.proofs.Common.{take}
 use Rattle.like_crew.specs.Crew.{GoesOn}
-use Rattle.like_run.specs.Script.{MakesAll}
+use Rattle.like_crew.specs.Steps.{MakesAll}
 use Rattle.like_run.proofs.rounds.make_all.Given as goal
 
 abbrev pub invariant-loop-entry : goal.invariant-loop-entry

@@ -35,7 +35,7 @@ load-requires c =
     }
 
 pub returns-clause-present : goal.returns-clause-present
-returns-clause-present c =
+returns-clause-present c lead first =
     let seat = c.args.self.now in
     let told = c.tell.ensures in
     let z = own_opening c.args.board.now in
@@ -43,7 +43,7 @@ returns-clause-present c =
     let counts = ap (λ (y : Opening). length y.counts) opened in
     let mine = c.requires.may.2 in
     c.load.ensures.found ∙ (λ m. get_or (told.words m) (c.word_of-word.ensures m) 0)
-    ∙ present_count z _ (own_views c.args.board.now) c.args.page told.holds (omega (arith, counts, mine))
+    ∙ present_count z _ (own_views c.args.board.now) c.args.page told.holds (omega (arith, counts, mine)) lead first
 
 pub invariant_of-self : goal.invariant_of-self
 invariant_of-self c = let told = c.load.ensures.told.0 c.args.page c.word_of-word.ensures in search (rules, told)

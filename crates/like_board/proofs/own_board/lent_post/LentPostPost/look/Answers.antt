@@ -8,7 +8,7 @@ invariant_of-self c =
     let told = c.look.ensures in
     record {
       lent = lent_looked c.args.self.now c.look.new.board c.look.new.self told.place told.board _
-          (ap (λ (v : WorkerSeatView). v.looks) told.view) told.fresh;
+          (ap (λ (v : WorkerSeatView). v.looks) told.view) (ap (λ (v : WorkerSeatView). v.did) told.view) told.fresh;
     }
 
 pub returns-clause-board : goal.returns-clause-board

@@ -8,7 +8,7 @@ invariant_of-self c =
     let told = c.retire.ensures in
     record {
       lent = lent_after c.args.self.now c.retire.new.board c.retire.new.self told.place told.board
-          (ap (λ (v : WorkerSeatView). v.looks) told.view);
+          (ap (λ (v : WorkerSeatView). v.looks) told.view) (ap (λ (v : WorkerSeatView). v.did) told.view);
     }
 
 pub returns-clause-board : goal.returns-clause-board

@@ -36,7 +36,7 @@ fetch_add-requires c =
     }
 
 pub returns-clause-present : goal.returns-clause-present
-returns-clause-present c =
+returns-clause-present c lead first =
     let seat = c.args.self.now in
     let told = c.tell.ensures in
     let z = own_opening c.args.board.now in
@@ -46,6 +46,7 @@ returns-clause-present c =
     let mine = c.requires.may.there in
     c.fetch_add.ensures.found ∙ (λ m. get_or (told.words m) (c.word_of-word.ensures m) 0)
     ∙ present_count z _ (own_views c.args.board.now) c.args.page told.holds (omega (arith, marks, paged, mine))
+    lead first
 
 pub returns-clause-event : goal.returns-clause-event
 returns-clause-event c =

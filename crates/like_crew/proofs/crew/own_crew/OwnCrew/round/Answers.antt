@@ -10,7 +10,6 @@ returns-then-ended-clause-round c =
       led = c.ends-ended.new.self;
       leads = led.1.0;
       workers = told.turns;
-      rest = told.rest;
       tells = (λ e. (led.1.1.0 c.if-ended.true, told.gone.0 e), λ ended. told.gone.1 ended.1);
     }
 
@@ -23,7 +22,6 @@ returns-else-ended-clause-round c =
       led = c.ends-ended.new.self;
       leads = led.1.0;
       workers = told.turns;
-      rest = told.rest;
       tells = (
         λ e. absurd (true≢false (sym e ∙ c.if-ended.false)),
         λ ended. absurd (true≢false (sym (led.1.1.1 ended.0) ∙ c.if-ended.false)),

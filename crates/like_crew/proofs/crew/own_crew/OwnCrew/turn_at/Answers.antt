@@ -1,6 +1,7 @@
 use Rattle.std.proofs.Common.{◌≡◌, ◌<◌, length, set, refl, sym, subst, arith, ap}
 use Rattle.std.proofs.lemmas.List.{length-map}
 use Rattle.like_core.specs.declared.worker_state.WorkerState.TheVariants.{Gone}
+use Rattle.like_board.specs.Lent.{HasFound}
 use Rattle.like_board.specs.Own.{own_views}
 use Rattle.like_roles.specs.declared.turn.Turn.TheVariants.{Retired}
 use Rattle.like_crew.specs.Crew.{CrewView, GoesOn}
@@ -50,14 +51,17 @@ returns-clause-case c =
     let at = stands-at servers _ k s (ap (λ (v : CrewView). v.servers) c.self.view_is) c.requires c.index_mut.ensures.value in
     let t : OwnServerView = c.turn.new.self in
     let told = c.turn.ensures in
-    subst (λ (v : CrewView). AtServer k (λ s t. IsFreshTurn v.coordinator.seat c.turn.result s t
+    let whole : CrewView = record { coordinator = c.self.inside.coordinator; servers = servers_of servers } in
+    subst (λ (v : CrewView). AtServer k (λ s t. IsFreshTurn v c.turn.result s t
     × (c.turn.result ≡ Retired → t.worker.post.state ≡ Gone)) v.servers (servers_of (set servers k t)))
-    c.self.view_is (at-server servers k s t at (λ (s t : ServerView). IsFreshTurn c.self.inside.coordinator.seat c.turn.result s t
+    c.self.view_is (at-server servers k s t at (λ (s t : ServerView). IsFreshTurn whole c.turn.result s t
     × (c.turn.result ≡ Retired → t.worker.post.state ≡ Gone)) (
       record {
         turn = record { whole = told.case; modelled = told.modelled };
         fresh = told.fresh c.self.inside.coordinator.seat
             (lead-known (own_views c.self.inside.board) c.self.inside.coordinator.seat servers c.self.invariant.0);
+        found = subst (λ views. HasFound views s.server.worker.post t.server.worker.post)
+            c.self.invariant.0.views_are told.found;
         only_open = told.only_open refl;
       },
       told.retired,

@@ -2,7 +2,7 @@ use Rattle.std.proofs.Common.{◌≡◌, [], refl, sym, ap, subst, ◌∙◌}
 use lib.ListN.{get_elem?}
 use Rattle.like_core.specs.declared.view.View.TheVariants.{Worker}
 use Rattle.like_board.specs.Lent.{lent_board}
-use Rattle.like_board.specs.Own.{own_place, own_view, own_views}
+use Rattle.like_board.specs.Own.{Knows, own_place, own_view, own_views}
 use Rattle.like_board.proofs.LentPosts.{CameBack, comes_back}
 use Rattle.like_crew.specs.Fresh.{IsModelled}
 use Rattle.like_crew.specs.OwnServer.{OwnServerView}
@@ -37,7 +37,9 @@ returns g c =
     c.board-1.given (sym lend.board_name ∙ sym name)
     (subst
     (λ (s : OwnServerView). CameBack (own_views c.args.board.now) s.place s.server.worker.post p.board.now p.seat.now)
-    c.self.view_is (comes_back p (own_views c.args.board.now) (own_place seat) (own_view seat) lent)) in
+    c.self.view_is (comes_back p (own_views c.args.board.now) (own_place seat) (own_view seat)
+    (subst (λ (s : OwnServerView). Knows c.args.board.now s.place (Worker s.server.worker.post)) (sym c.self.view_is)
+    c.requires) lent)) in
     record {
       case = case;
       modelled = at-board view opened IsModelled [] [] before after c.self.inside.serving c.turn.new.self _ was refl
@@ -50,6 +52,7 @@ returns g c =
       fresh = λ known is. lent-fresh c.turn.result (get_elem? (own_views c.args.board.now) 0) known
           c.args.self.now.server _ came.looked is case;
       looked = came.looked;
+      found = came.found;
       place = came.place_is;
       views = came.views_are;
     }
