@@ -25,8 +25,7 @@ look_after sight did = record { sight = sight; did = length did }
 -- how many likes a step adds
 abbrev pub likes_of : PageCall → ℕ
 likes_of (Add n) = n
-likes_of Read = 0
-likes_of Glance = 0
+likes_of _ = 0
 
 -- how many likes a step adds to this page
 abbrev pub adds_to : ℕ → PageStep → ℕ
@@ -39,8 +38,7 @@ likes_in page steps = sum_by (adds_to page) steps
 -- an addition adds at least one like
 abbrev pub AddsSome : PageCall → Type 0
 AddsSome (Add n) = 1 ≤ n
-AddsSome Read = Unit {0}
-AddsSome Glance = Unit {0}
+AddsSome _ = Unit {0}
 
 -- in turn, the latest step first: each step found the page's first count and all likes that the steps before it added
 -- to the page, and phases never fall: none is later than this one
@@ -67,8 +65,7 @@ then_steps before (s ∷ steps) = then_steps (s ∷ before) steps
 -- additions, and one more if a call is one
 abbrev pub and_addition : List Addition → ℕ → ℕ → ℕ → PageCall → List Addition
 and_addition earlier phase page found (Add n) = earlier ++ addition phase page found n ∷ []
-and_addition earlier phase page found Read = earlier
-and_addition earlier phase page found Glance = earlier
+and_addition earlier phase page found _ = earlier
 
 -- the additions among steps, the latest step first, in their order
 abbrev pub additions_among : List PageStep → List Addition

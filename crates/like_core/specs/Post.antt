@@ -82,13 +82,7 @@ retired v = record v { state = Gone; slots = [] }
 
 -- the post after it came back, into this phase, which it saw running; that has this number, like a look
 abbrev pub returned : WorkerSeatView → ℕ → ℕ → WorkerSeatView
-returned v phase number = record v {
-  state = Runs phase;
-  last = Some (running_sight phase);
-  looks = v.looks ++ look_after (running_sight phase) v.did ∷ [];
-  logged = numbered number (Saw v.worker phase) ∷ v.logged;
-  slots = [];
-}
+returned v phase number = record (looked_at v (running_sight phase) number) { state = Runs phase }
 
 -- the post after it did this at a page, whose count was `found` before; the step has this number
 abbrev pub stepped : WorkerSeatView → ℕ → ℕ → PageCall → ℕ → WorkerSeatView

@@ -13,15 +13,13 @@ IsIn phase Gone = Unit {0}
 
 -- the worker's state after a look at this phase: one that answered an earlier phase now runs this one
 abbrev pub looked : ℕ → WorkerState → WorkerState
-looked phase (Runs j) = Runs j
 looked phase (Answered j) = (if nat_lt j phase then Runs phase else Answered j)
-looked phase Gone = Gone
+looked phase state = state
 
 -- the worker runs a phase, and P holds of it
 abbrev pub RunsSome : (ℕ → Type 0) → WorkerState → Type 0
 RunsSome P (Runs phase) = P phase
-RunsSome P (Answered phase) = ⊥
-RunsSome P Gone = ⊥
+RunsSome P _ = ⊥
 
 -- the worker runs a phase
 abbrev pub IsRunning : WorkerState → Type 0
@@ -58,9 +56,8 @@ IsSightOf Gone sight = ⊥
 
 -- the worker's state after a sight
 abbrev pub seen : WorkerState → Sight → WorkerState
-seen (Runs phase) sight = Runs phase
 seen (Answered phase) sight = (if sight.waits then Answered phase else Runs (phase + 1))
-seen Gone sight = Gone
+seen state sight = state
 
 -- what a worker sees that runs this phase, which isn't ending
 abbrev pub running_sight : ℕ → Sight

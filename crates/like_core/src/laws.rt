@@ -1,10 +1,11 @@
 //! Laws of the core's states, of the views of seats and of the places of a board's words. Each is the contract of a
 //! function that does nothing.
 ghost use Rattle.like_core.specs.declared.form.Form.TheVariants.{Bits, Counts};
-ghost use Rattle.like_core.specs.core.Exclusive.{ReachableIsExclusive, ReachedIsExclusive};
+ghost use Rattle.like_core.specs.core.Exclusive.{AreExclusive};
 ghost use Rattle.like_core.specs.Slots.{SlotsTell};
-ghost use Rattle.like_core.specs.core.Likes.{LikesStayReachable, LikesStayReached, NoneHoldsWhileJoined};
-ghost use Rattle.like_core.specs.core.Moves.{AllInStays, AllStayIn, NobodyReturns};
+ghost use Rattle.like_core.specs.core.Likes.{LikesStay, NoneHoldsWhileJoined};
+ghost use Rattle.like_core.specs.core.Moves.{AllInStays, AllStayIn, NobodyReturns, Reached};
+ghost use Rattle.like_core.specs.core.Reachable.{Reachable};
 ghost use Rattle.like_core.specs.views.Layout.{WordsStandApart};
 ghost use Rattle.like_core.specs.views.Shows.{CountsAreOfOneMoment, MomentsAreReachable};
 ghost use Rattle.like_core.specs.views.SplitPages.{SlotsAreExact, SplitPagesAgree};
@@ -16,13 +17,13 @@ ghost use Rattle.like_core.specs.views.PostOrder.{MomentsAreOrdered, OrderGivesB
 
 /// No worker runs joined work while another has unmerged likes, after any list of events.
 pub fn reachable_is_exclusive()
-    ensures { ReachableIsExclusive }
+    ensures { AreExclusive Reachable }
 {}
 
 /// The likes that workers keep in their own slices lead to no state that could not be reached: so what holds of every
 /// state that can be reached holds of the board's state and all slices together.
 pub fn likes_stay_reachable()
-    ensures { LikesStayReachable }
+    ensures { LikesStay Reachable }
 {}
 
 /// In every interleaving, no worker runs joined work while another holds an unmerged slice: the two laws above, together.
@@ -33,12 +34,12 @@ pub fn none_holds_while_joined()
 /// No worker runs joined work while another has unmerged likes, after any list of moves: also where seats of a service
 /// that were gone come back.
 pub fn reached_is_exclusive()
-    ensures { ReachedIsExclusive }
+    ensures { AreExclusive Reached }
 {}
 
 /// The likes that workers of a service keep in their own slices lead to no state that no moves reach.
 pub fn likes_stay_reached()
-    ensures { LikesStayReached }
+    ensures { LikesStay Reached }
 {}
 
 /// In a run no seat comes back: moves reach the states that events reach, and no other.

@@ -1,4 +1,4 @@
-ghost use Rattle.std.specs.Prelude.{◌≡◌, ◌<◌, ◌≤◌, ◌↔◌, true, length, replicate, All, IsOk, IfOk, OnOk, IfErr, OnErr};
+ghost use Rattle.std.specs.Prelude.{◌≡◌, ◌<◌, ◌≤◌, ◌↔◌, true, [], ◌∷◌, length, replicate, All, IsOk, IfOk, OnOk, IfErr, OnErr};
 ghost use Rattle.like_limits.specs.Limits.{max_pages, max_workers, total_bound};
 ghost use Rattle.like_core.specs.OpeningLimits.{AreLimits};
 ghost use Rattle.like_core.specs.core.Numbers.{AreBounded};
@@ -57,8 +57,8 @@ fn empty_rows(alloc: Global, workers: u32, pages: usize) -> Result<Vec<PageNumbe
 
 impl Core {
     ghost use Rattle.like_core.specs.core.Table.{Permits, IsShown, next, Refuses};
-    ghost use Rattle.like_core.specs.core.State.{opening, opening_with};
-    ghost use Rattle.like_core.specs.core.Core.{numbers_of, StandsForStart, TakesStates, IsReachable, KeepsReachable, IsCoreExclusive};
+    ghost use Rattle.like_core.specs.core.State.{opening, opening_with, start};
+    ghost use Rattle.like_core.specs.core.Core.{numbers_of, StandsFor, TakesStates, IsReachable, KeepsReachable, IsCoreExclusive};
 
     /// The core at the start of phase 0, running, with these counts and marks by page and the limits of a run. Pages
     /// that are marked in `split` are split in each odd phase, and others of the first 64 in those that are released
@@ -75,7 +75,7 @@ impl Core {
         requires few_pages { length counts.now ≤ max_pages }
         requires counts { All (λ count. count < total_bound) counts.now }
         ensures start { IfOk result
-            (λ core. StandsForStart core (opening workers counts.now split.now)) }
+            (λ core. let z = opening workers counts.now split.now in StandsFor core z (start z)) }
         ensures reachable { IfOk result
             (λ core. IsReachable core (opening workers counts.now split.now)) }
         ensures exclusive { IfOk result IsCoreExclusive }
@@ -98,7 +98,7 @@ impl Core {
         requires counts { All (λ count. count < total_bound) counts.now }
         requires limits { AreLimits limits }
         ensures start { IfOk result (λ core.
-            StandsForStart core (opening_with limits workers counts.now split.now)) }
+            let z = opening_with limits workers counts.now split.now in StandsFor core z (start z)) }
         ensures reachable { IfOk result (λ core.
             IsReachable core (opening_with limits workers counts.now split.now)) }
         ensures exclusive { IfOk result IsCoreExclusive }
@@ -120,7 +120,7 @@ impl Core {
         ensures permitted { IsOk result ↔ Permits (numbers_of self.old) event }
         ensures shown { IfOk result (IsShown (numbers_of self.old) event) }
         ensures next { OnOk result (numbers_of self.new ≡ next (numbers_of self.old) event) }
-        ensures states { OnOk result (TakesStates self.old self.new event) }
+        ensures states { OnOk result (TakesStates self.old self.new (event ∷ [])) }
 
         ensures refused { IfErr result (Refuses (numbers_of self.old) event) }
         ensures unchanged { OnErr result (self.new ≡ self.old) }

@@ -6,9 +6,9 @@ use Rattle.like_core.specs.declared.pure_core.Core.{Core}
 use Rattle.like_core.specs.core.Numbers.{Numbers}
 use Rattle.like_core.specs.core.Table.{Permits, next}
 use Rattle.like_core.specs.core.State.{CoreState, start, after, numbers}
-use Rattle.like_core.specs.core.Reachable.{PermitsAll}
+use Rattle.like_core.specs.core.Reachable.{PermitsAll, Reachable}
 use Rattle.like_core.specs.Functions.{MayAll}
-use Rattle.like_core.specs.core.Exclusive.{ReachableIsExclusive}
+use Rattle.like_core.specs.core.Exclusive.{AreExclusive}
 use Rattle.like_core.specs.core.Core.{numbers_of, StandsFor, IsReachable, KeepsReachable, IsCoreExclusive}
 use Rattle.like_core.proofs.core.NumbersAfter.{numbers-after}
 use Rattle.like_core.proofs.core.EventLists.{takes_states_all}
@@ -16,7 +16,7 @@ use Rattle.like_core.proofs.core.Reached.{start_reached, goes_on}
 use Rattle.like_core.proofs.core.InPhase.{exclusive, reached_in_phase, in_phase_alike}
 
 -- every state that can be reached is exclusive, and in phase
-pub reachable_is_exclusive : ReachableIsExclusive
+pub reachable_is_exclusive : AreExclusive Reachable
 reachable_is_exclusive z s r = let p = reached_in_phase z s r in (exclusive z s p, p)
 
 -- events that the numbers of a state permit are permitted in the state

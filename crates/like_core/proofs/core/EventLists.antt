@@ -10,7 +10,7 @@ use Rattle.like_core.specs.core.Numbers.{Numbers}
 use Rattle.like_core.specs.core.Table.{Permits, Refuses, next}
 use Rattle.like_core.specs.core.State.{CoreState, after, numbers}
 use Rattle.like_core.specs.Functions.{MayAll}
-use Rattle.like_core.specs.core.Core.{numbers_of, TakesStates, TakesStatesAll}
+use Rattle.like_core.specs.core.Core.{numbers_of, TakesStates}
 use Rattle.like_core.proofs.core.NumbersAfter.{numbers-after}
 
 -- an event that is refused is not permitted
@@ -59,13 +59,13 @@ numbers-fold z s (event ∷ events) =
 -- a core with the next numbers stands for each state after the event
 pub takes_states : (old new : Core) (event : Event)
     → numbers_of new ≡ next (numbers_of old) event
-    → TakesStates old new event
+    → TakesStates old new (event ∷ [])
 takes_states old new event now z s stands =
     now ∙ (ap (λ (n : Numbers). next n event) stands ∙ sym (numbers-after z s event))
 
 -- and so for a list of events
 pub takes_states_all : (old new : Core) (events : List Event)
     → numbers_of new ≡ fold next (numbers_of old) events
-    → TakesStatesAll old new events
+    → TakesStates old new events
 takes_states_all old new events now z s stands =
     now ∙ (ap (λ (n : Numbers). fold next n events) stands ∙ sym (numbers-fold z s events))

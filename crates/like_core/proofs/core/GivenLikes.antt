@@ -14,7 +14,7 @@ use Rattle.like_core.specs.core.State.{CoreState, is_split_now, after, numbers}
 use Rattle.like_core.specs.core.Reachable.{Reachable}
 use Rattle.like_core.specs.core.Moves.{Reached}
 use Rattle.like_core.specs.core.Exclusive.{IsInPhase}
-use Rattle.like_core.specs.core.Likes.{given, MayLike, LikesStayReachable, LikesStayReached}
+use Rattle.like_core.specs.core.Likes.{given, MayLike, LikesStay}
 use Rattle.like_core.proofs.Updates.{update-same, update-other, update_cases}
 use Rattle.like_core.proofs.Sums.{sum_below-same, sum_below-le, sum_below-update}
 use Rattle.like_core.proofs.Times.{times-append, times-cons, times-cons_same}
@@ -198,11 +198,11 @@ likes_stay R z s more goes r may =
     ]))
 
 -- a state that events reach, they reach with such likes too
-pub likes_stay_reachable : LikesStayReachable
+pub likes_stay_reachable : LikesStay Reachable
 likes_stay_reachable z s more r may =
     likes_stay Reachable z s more (record { in_phase = reached_in_phase; on = goes_on_by }) r may
 
 -- and so do moves
-pub likes_stay_reached : LikesStayReached
+pub likes_stay_reached : LikesStay Reached
 likes_stay_reached z s more r may =
     likes_stay Reached z s more (record { in_phase = moved_in_phase; on = moves_by }) r may

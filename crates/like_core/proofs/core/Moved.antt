@@ -8,7 +8,7 @@ use Rattle.like_core.specs.core.State.{CoreState, start, after, numbers}
 use Rattle.like_core.specs.core.Reachable.{Reachable, PermitsAll}
 use Rattle.like_core.specs.Functions.{MayAll}
 use Rattle.like_core.specs.core.Moves.{Move, makes, comes_back, glances, LetsReturn, MayMove, MayReturn, NobodyReturns, Reached, after_move}
-use Rattle.like_core.specs.core.Exclusive.{IsInPhase, ReachedIsExclusive}
+use Rattle.like_core.specs.core.Exclusive.{IsInPhase, AreExclusive}
 use Rattle.like_core.proofs.core.InPhase.{exclusive, keeps_in_phase, return_in_phase, start_in_phase}
 use Rattle.like_core.proofs.core.Reached.{MayAll-append, start_reached, goes_on_by}
 
@@ -68,7 +68,7 @@ moved_in_phase z s r =
     subst (IsInPhase z) r.reached (moves_in_phase z (start z) r.moves (start_in_phase z) r.may)
 
 -- so it is exclusive
-pub reached_is_exclusive : ReachedIsExclusive
+pub reached_is_exclusive : AreExclusive Reached
 reached_is_exclusive z s r = let p = moved_in_phase z s r in (exclusive z s p, p)
 
 -- where nobody comes back, each move is an event or changes nothing

@@ -5,7 +5,7 @@ use Rattle.like_core.specs.declared.event.Event.{Event}
 use Rattle.like_core.specs.declared.event.Event.TheVariants.{Look, Acknowledge, Report, Retire, Like, Read, Merge, Hot, CoordLook, CoordRead, Announce, Release}
 use Rattle.like_core.specs.declared.opening.Opening.{Opening}
 use Rattle.like_core.specs.Functions.{update, times}
-use Rattle.like_core.specs.core.Numbers.{with_unmerged, with_count}
+use Rattle.like_core.specs.core.Numbers.{with_unmerged, with_more}
 use Rattle.like_core.specs.core.Table.{next}
 use Rattle.like_core.specs.core.State.{CoreState, Label, without, is_split_now, after, numbers}
 use Rattle.like_core.proofs.Updates.{update-same, update-other, update_cases}
@@ -66,7 +66,7 @@ numbers-after z s (Like i page) =
           (times-push (s.unmerged i) page) j q m;
     }
     in
-    let in_count : numbers z plain_like ≡ with_count n page (n.count page + 1) =
+    let in_count : numbers z plain_like ≡ with_more n page 1 =
     λ m. record n { count = λ q. count-update z.counts s.applied page (label ∷ []) q m }
     in
     ap-cond (numbers z) (is_split_now z s page) sliced_like plain_like _ _ in_slice in_count

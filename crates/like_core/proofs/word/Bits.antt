@@ -14,7 +14,7 @@ use Rattle.like_core.specs.WorkerState.{looked}
 use Rattle.like_core.specs.core.State.{CoreState}
 use Rattle.like_core.specs.core.Exclusive.{IsInPhase}
 use Rattle.like_core.specs.word.Word.{Fields, packed, answer_bit, retirement_bit}
-use Rattle.like_core.specs.word.Forms.{has_answered, is_gone, bits, bits_fields, kind_in}
+use Rattle.like_core.specs.word.Forms.{has_answered, is_gone, bits, kind_in}
 use Rattle.like_core.specs.word.ShownWord.{word_in}
 use Rattle.like_core.specs.views.Shows.{IsOpening}
 use Rattle.like_core.specs.views.Serves.{Serves, moved}
@@ -62,7 +62,14 @@ pub bits_serves : (z : Opening) (s : CoreState)
 bits_serves z s opening form p =
     let a : ℕ → Bool = λ i. has_answered s.phase (s.state i) in
     let g : ℕ → Bool = λ i. is_gone (s.state i) in
-    let f : Fields = bits_fields z.workers s.phase s.ending s.state in
+    let f : Fields = record {
+      kind = kind_in s.phase s.ending;
+      workers = z.workers;
+      answered = mask a z.workers;
+      retired = mask g z.workers;
+      number = s.phase;
+    }
+    in
     let w : ℕ = packed f in
     let seats : z.limits.seats ≤ 16 = subst (λ (k : Form). z.limits.seats ≤ most_seats k) form opening.limits.seats in
     let last : z.limits.last_phase ≤ 16777214 =

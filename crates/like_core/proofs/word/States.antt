@@ -6,7 +6,7 @@ use Rattle.like_core.specs.declared.worker_state.WorkerState.TheVariants.{Runs, 
 use Rattle.like_core.specs.Functions.{update, weight}
 use Rattle.like_core.specs.WorkerState.{IsIn, looked}
 use Rattle.like_core.specs.core.State.{CoreState}
-use Rattle.like_core.specs.word.Forms.{has_answered, is_gone, first_states, kind_in, released_kind}
+use Rattle.like_core.specs.word.Forms.{has_answered, is_gone, kind_in, released_kind}
 use Rattle.like_core.proofs.Updates.{update-same, update-other}
 
 pub weight-lt : (b : Bool) → weight b < 2
@@ -84,6 +84,10 @@ pub gone_test : (state : WorkerState) → is_gone state ≡ true → state ≡ G
 gone_test (Runs j) is = absurd (cc)
 gone_test (Answered j) is = absurd (cc)
 gone_test Gone is = refl
+
+-- the workers' states at the start
+abbrev pub first_states : ℕ → ℕ → WorkerState
+first_states workers i = cond (nat_lt i workers) (Runs 0) Gone
 
 -- at the start all workers run
 pub first_runs : (workers i : ℕ) → i < workers → first_states workers i ≡ Runs 0

@@ -19,24 +19,15 @@ numbers_of core =
 abbrev pub StandsFor : Core → Opening → CoreState → Type 0
 StandsFor core z s = numbers_of core ≡ numbers z s
 
--- the core stands for the start
-abbrev pub StandsForStart : Core → Opening → Type 0
-StandsForStart core z = StandsFor core z (start z)
-
 -- the core stands for some state that can be reached
 pub record IsReachable (core : Core) (z : Opening) : Type 0 where
   pub state : CoreState
   pub stands : StandsFor core z state
   pub reachable : Reachable z state
 
--- if the old core stands for a state, the new one stands for the state after the event
-abbrev pub TakesStates : Core → Core → Event → Type 0
-TakesStates old new event =
-    (z : Opening) (s : CoreState) → StandsFor old z s → StandsFor new z (after z s event)
-
 -- if the old core stands for a state, the new one stands for the state after these events, one after the other
-abbrev pub TakesStatesAll : Core → Core → List Event → Type 0
-TakesStatesAll old new events =
+abbrev pub TakesStates : Core → Core → List Event → Type 0
+TakesStates old new events =
     (z : Opening) (s : CoreState) → StandsFor old z s → StandsFor new z (fold (after z) s events)
 
 -- if the old core stands for a state that can be reached, so does the new one

@@ -4,8 +4,6 @@ use Rattle.like_core.specs.declared.worker_state.WorkerState.TheVariants.{Runs, 
 use Rattle.like_core.specs.declared.opening.Opening.{Opening}
 use Rattle.like_core.specs.Phase.{IsJoined, IsSplit}
 use Rattle.like_core.specs.core.State.{CoreState}
-use Rattle.like_core.specs.core.Reachable.{Reachable}
-use Rattle.like_core.specs.core.Moves.{Reached}
 
 -- no worker has unmerged likes
 abbrev pub NoneUnmerged : CoreState → Type 0
@@ -35,10 +33,6 @@ pub record IsInPhase (z : Opening) (s : CoreState) : Type 0 where
   -- the last phase is never ending
   pub last : s.ending ≡ true → s.phase < z.limits.last_phase
 
--- every state that can be reached is exclusive, and in phase
-abbrev pub ReachableIsExclusive : Type 0
-ReachableIsExclusive = (z : Opening) (s : CoreState) → Reachable z s → IsExclusive s × IsInPhase z s
-
--- every state that moves reach is exclusive, and in phase
-abbrev pub ReachedIsExclusive : Type 0
-ReachedIsExclusive = (z : Opening) (s : CoreState) → Reached z s → IsExclusive s × IsInPhase z s
+-- every state that is reached in this way is exclusive, and in phase
+abbrev pub AreExclusive : (Opening → CoreState → Type 0) → Type 0
+AreExclusive Reach = (z : Opening) (s : CoreState) → Reach z s → IsExclusive s × IsInPhase z s

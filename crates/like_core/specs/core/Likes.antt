@@ -9,7 +9,6 @@ use Rattle.like_core.specs.core.Numbers.{total}
 use Rattle.like_core.specs.core.State.{CoreState, is_split_now, numbers}
 use Rattle.like_core.specs.core.Exclusive.{NoneUnmerged}
 use Rattle.like_core.specs.core.Reachable.{Reachable}
-use Rattle.like_core.specs.core.Moves.{Reached}
 
 -- each worker has more unmerged likes, of these pages
 abbrev pub given : CoreState → (ℕ → List ℕ) → CoreState
@@ -23,17 +22,10 @@ pub record MayLike (z : Opening) (s : CoreState) (more : ℕ → List ℕ) : Typ
   pub splits : (i page : ℕ) → 0 < times page (more i) → is_split_now z s page ≡ true
   pub totals : (page : ℕ) → total (numbers z (given s more)) page < total_bound
 
--- a state that can be reached stays so with unmerged likes of split pages at workers that run the phase
-abbrev pub LikesStayReachable : Type 0
-LikesStayReachable =
-    (z : Opening) (s : CoreState) (more : ℕ → List ℕ)
-    → Reachable z s → MayLike z s more → Reachable z (given s more)
-
--- a state that moves reach stays one with unmerged likes of split pages at workers that run the phase
-abbrev pub LikesStayReached : Type 0
-LikesStayReached =
-    (z : Opening) (s : CoreState) (more : ℕ → List ℕ)
-    → Reached z s → MayLike z s more → Reached z (given s more)
+-- a state that is reached in this way stays so with unmerged likes of split pages at workers that run the phase
+abbrev pub LikesStay : (Opening → CoreState → Type 0) → Type 0
+LikesStay Reach =
+    (z : Opening) (s : CoreState) (more : ℕ → List ℕ) → Reach z s → MayLike z s more → Reach z (given s more)
 
 -- in a state that can be reached, with any likes that slices may hold, no worker has an unmerged like while one runs a
 -- joined phase

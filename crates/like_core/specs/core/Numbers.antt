@@ -39,10 +39,6 @@ abbrev pub with_unmerged : Numbers → ℕ → ℕ → ℕ → Numbers
 with_unmerged n i page likes =
     record n { unmerged = update n.unmerged i (update (n.unmerged i) page likes) }
 
--- the page has this count, and all else is the same
-abbrev pub with_count : Numbers → ℕ → ℕ → Numbers
-with_count n page count = record n { count = update n.count page count }
-
 -- worker i has looked, and all else is the same
 abbrev pub with_look : Numbers → ℕ → Numbers
 with_look n i = with_state n i (looked n.phase (n.state i))
@@ -53,7 +49,7 @@ with_like n i page = with_unmerged n i page (n.unmerged i page + 1)
 
 -- the page's count has this many more likes, and all else is the same
 abbrev pub with_more : Numbers → ℕ → ℕ → Numbers
-with_more n page likes = with_count n page (n.count page + likes)
+with_more n page likes = record n { count = update n.count page (n.count page + likes) }
 
 -- whether likes of the page go into slices in the present phase
 abbrev pub splits : Numbers → ℕ → Bool

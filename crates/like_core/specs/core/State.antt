@@ -84,21 +84,18 @@ after z s (Like i page) =
     record s { unmerged = update s.unmerged i (s.unmerged i ++ page ∷ []) }
     else
     record s { applied = update s.applied page (s.applied page ++ label_now s i ∷ []) })
-after z s (Read i page) = s
 after z s (Merge i page) = record s {
   unmerged = update s.unmerged i (without page (s.unmerged i));
   applied = update s.applied page
       (s.applied page ++ replicate (times page (s.unmerged i)) (label_now s i));
 }
-after z s (Hot i) = s
-after z s CoordLook = s
-after z s (CoordRead page) = s
 after z s Announce = record s { ending = true }
 after z s (Release mask) = record s {
   phase = s.phase + 1;
   ending = false;
   hot = update s.hot (s.phase + 1) mask;
 }
+after z s _ = s
 
 -- the numbers of a state: how long its lists are, and the mask of its phase
 abbrev pub numbers : Opening → CoreState → Numbers

@@ -25,10 +25,9 @@ NamesWhatIsThere n (Like i page) = (i < n.workers) × (page < n.pages)
 NamesWhatIsThere n (Read i page) = (i < n.workers) × (page < n.pages)
 NamesWhatIsThere n (Merge i page) = (i < n.workers) × (page < n.pages)
 NamesWhatIsThere n (Hot i) = i < n.workers
-NamesWhatIsThere n CoordLook = Unit {0}
 NamesWhatIsThere n (CoordRead page) = page < n.pages
-NamesWhatIsThere n Announce = Unit {0}
 NamesWhatIsThere n (Release mask) = mask < 2 ^ n.pages
+NamesWhatIsThere n _ = Unit {0}
 
 -- the event suits the workers' states, the kind of the phase and the unmerged likes
 abbrev pub Suits : Numbers → Event → Type 0
@@ -42,10 +41,9 @@ Suits n (Like i page) = n.state i ≡ Runs n.phase
 Suits n (Read i page) = (n.state i ≡ Runs n.phase) × (splits n page ≡ false)
 Suits n (Merge i page) = (n.state i ≡ Runs n.phase) × (splits n page ≡ true) × (n.ending ≡ true)
 Suits n (Hot i) = (n.state i ≡ Runs n.phase) × IsSplit n.phase
-Suits n CoordLook = Unit {0}
-Suits n (CoordRead page) = Unit {0}
 Suits n Announce = n.ending ≡ false
 Suits n (Release mask) = (n.ending ≡ true) × AllIn n × (IsSplit n.phase → mask ≡ 0)
+Suits n _ = Unit {0}
 
 -- the event does not announce the end of the last phase
 abbrev pub LeavesLast : Numbers → Event → Type 0
@@ -74,17 +72,13 @@ Refuses n event Full = NamesWhatIsThere n event × Suits n event × LeavesLast n
 -- what the event shows
 abbrev pub IsShown : Numbers → Event → Shown → Type 0
 IsShown n (Look i) shown = ((sight : Sight) × (shown ≡ Seen sight) × Sees n i sight)
-IsShown n (Acknowledge i) shown = shown ≡ Done
-IsShown n (Report i) shown = shown ≡ Done
-IsShown n (Retire i) shown = shown ≡ Done
 IsShown n (Like i page) shown = shown ≡ (if splits n page then Sliced else Old (n.count page))
 IsShown n (Read i page) shown = shown ≡ Count (n.count page)
 IsShown n (Merge i page) shown = shown ≡ Old (n.count page)
 IsShown n (Hot i) shown = shown ≡ HotShown n.hot
 IsShown n CoordLook shown = ((sight : CoordSight) × (shown ≡ Coord sight) × CoordSees n sight)
 IsShown n (CoordRead page) shown = shown ≡ Count (n.count page)
-IsShown n Announce shown = shown ≡ Done
-IsShown n (Release mask) shown = shown ≡ Done
+IsShown n _ shown = shown ≡ Done
 
 -- the numbers after the event
 abbrev pub next : Numbers → Event → Numbers
@@ -94,13 +88,10 @@ next n (Report i) = with_state n i (Answered n.phase)
 next n (Retire i) = with_state n i Gone
 next n (Like i page) =
     (if splits n page then with_like n i page else with_more n page 1)
-next n (Read i page) = n
 next n (Merge i page) = with_more (with_unmerged n i page 0) page (n.unmerged i page)
-next n (Hot i) = n
-next n CoordLook = n
-next n (CoordRead page) = n
 next n Announce = record n { ending = true }
 next n (Release mask) = record n { phase = n.phase + 1; ending = false; hot = mask }
+next n _ = n
 
 -- the events before the index may happen, and the one there is refused for the reason
 pub record IsWrong (n : Numbers) (events : List Event) (wrong : Wrong) : Type 0 where

@@ -232,10 +232,6 @@ pub record IsSteps (z : Opening) (events : List Event) (move : Move) (shown : Sh
 abbrev pub IsEntry : Opening → List Event → Move → Shown → LogEntry → View → View → Type 0
 IsEntry z events move shown entry v w = IsSteps z events move shown (entry ∷ []) v w
 
--- one step of a seat is this move, and has no entry
-abbrev pub IsMove : Opening → Move → Shown → View → View → Type 0
-IsMove z move shown v w = IsSteps z [] move shown [] v w
-
--- one step of a seat is this event
+-- one step of a seat is this event, and has no entry
 abbrev pub IsStep : Opening → Event → Shown → View → View → Type 0
-IsStep z event shown v w = IsMove z (makes event) shown v w
+IsStep z event shown v w = IsSteps z [] (makes event) shown [] v w

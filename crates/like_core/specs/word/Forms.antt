@@ -6,19 +6,17 @@ use Rattle.like_core.specs.declared.worker_state.WorkerState.TheVariants.{Runs, 
 use Rattle.like_core.specs.declared.form.Form.{Form}
 use Rattle.like_core.specs.declared.form.Form.TheVariants.{Bits, Counts}
 use Rattle.like_core.specs.Functions.{each_below, has_bit, how_many, mask, weight}
-use Rattle.like_core.specs.word.Word.{Fields, packed, answer_bit, retirement_bit}
+use Rattle.like_core.specs.word.Word.{packed, answer_bit, retirement_bit}
 
 -- whether a worker in this state has answered this phase
 abbrev pub has_answered : ℕ → WorkerState → Bool
-has_answered phase (Runs j) = false
 has_answered phase (Answered j) = j == phase
-has_answered phase Gone = false
+has_answered phase _ = false
 
 -- whether a worker in this state is gone
 abbrev pub is_gone : WorkerState → Bool
-is_gone (Runs j) = false
-is_gone (Answered j) = false
 is_gone Gone = true
+is_gone _ = false
 
 -- what a word of either form has in its lowest two bits: the high one is set if the phase is split, the low one if it is
 -- ending
@@ -48,20 +46,16 @@ pub record WordForm : Type 0 where
   -- the word that a release stores, if it saw this one
   pub released : ℕ → ℕ
 
--- the fields of a word of bits
-abbrev pub bits_fields : ℕ → ℕ → Bool → (ℕ → WorkerState) → Fields
-bits_fields workers phase ending state = record {
-  kind = kind_in phase ending;
-  workers = workers;
-  answered = mask (λ i. has_answered phase (state i)) workers;
-  retired = mask (λ i. is_gone (state i)) workers;
-  number = phase;
-}
-
 -- the form of a program: a phase has 24 bits, and at most 16 workers have two bits each
 abbrev pub bits : WordForm
 bits = record {
-  word = λ workers phase ending state. packed (bits_fields workers phase ending state);
+  word = λ workers phase ending state. packed (record {
+    kind = kind_in phase ending;
+    workers = workers;
+    answered = mask (λ i. has_answered phase (state i)) workers;
+    retired = mask (λ i. is_gone (state i)) workers;
+    number = phase;
+  });
   answer = answer_bit;
   retirement = retirement_bit;
   put = λ word bit. bit_or word bit;
@@ -100,10 +94,6 @@ abbrev pub form_of : Form → WordForm
 form_of Bits = bits
 form_of Counts = counts
 
--- the workers' states at the start
-abbrev pub first_states : ℕ → ℕ → WorkerState
-first_states workers i = (if nat_lt i workers then Runs 0 else Gone)
-
 -- the word at the start: this many workers run phase 0
 abbrev pub first_word : WordForm → ℕ → ℕ
-first_word f workers = f.word workers 0 false (first_states workers)
+first_word f workers = f.word workers 0 false (λ i. (if nat_lt i workers then Runs 0 else Gone))

@@ -1,7 +1,7 @@
 ghost use Rattle.std.specs.Prelude.{◌≡◌, ◌↔◌, IsOk, OnOk, IfErr, fold, take};
 ghost use Rattle.like_core.specs.Functions.{MayAll};
 ghost use Rattle.like_core.specs.core.Table.{IsWrong, Permits, next};
-ghost use Rattle.like_core.specs.core.Core.{numbers_of, TakesStatesAll, KeepsReachable, IsCoreExclusive};
+ghost use Rattle.like_core.specs.core.Core.{numbers_of, TakesStates, KeepsReachable, IsCoreExclusive};
 
 use super::{Core, Wrong};
 use crate::event::Event;
@@ -10,13 +10,13 @@ use crate::event::Event;
 pub fn check_events(core: &mut Core, events: &[Event]) -> Result<(), Wrong>
     ensures permitted { IsOk result ↔ MayAll next Permits (numbers_of core.old) events.now }
     ensures next { OnOk result (numbers_of core.new ≡ fold next (numbers_of core.old) events.now) }
-    ensures states { OnOk result (TakesStatesAll core.old core.new events.now) }
+    ensures states { OnOk result (TakesStates core.old core.new events.now) }
 
     ensures wrong { IfErr result (IsWrong (numbers_of core.old) events.now) }
     ensures before { IfErr result (λ wrong.
         numbers_of core.new ≡ fold next (numbers_of core.old) (take wrong.index events.now)) }
     ensures states_before { IfErr result (λ wrong.
-        TakesStatesAll core.old core.new (take wrong.index events.now)) }
+        TakesStates core.old core.new (take wrong.index events.now)) }
 
     ensures reachable { KeepsReachable core.old core.new }
     ensures exclusive { IsCoreExclusive core.new }

@@ -1,8 +1,8 @@
 use Rattle.std.proofs.Common.{ap, arith}
-use Rattle.like_core.specs.word.Forms.{first_states, has_answered, is_gone}
+use Rattle.like_core.specs.word.Forms.{has_answered, is_gone}
 use Rattle.like_core.proofs.word.HowMany.{how_many-none}
 use Rattle.like_core.proofs.word.Masks.{mask_none}
-use Rattle.like_core.proofs.word.States.{first_runs}
+use Rattle.like_core.proofs.word.States.{first_runs, first_states}
 use Rattle.like_core.proofs.form.Form.first.Goals as goal
 
 pub returns-in-Bits : goal.returns-in-Bits

@@ -1,5 +1,5 @@
 use Rattle.std.proofs.Common.{ℕ, ◌+◌, ap, ◌∙◌}
-use Rattle.like_core.specs.core.Numbers.{Numbers, with_unmerged, with_count}
+use Rattle.like_core.specs.core.Numbers.{Numbers, with_unmerged, with_more}
 use Rattle.like_core.specs.core.Core.{numbers_of}
 use Rattle.like_core.proofs.pure_core.Core.merge.Goals as goal
 
@@ -13,6 +13,6 @@ returns-clause-moved c =
     let old = numbers_of c.args.self.now in
     let likes = c.take_unmerged-likes.result in
     c.add_count.ensures.added ∙
-    (ap (λ (n : Numbers). with_count n page (n.count page + likes)) c.take_unmerged-likes.ensures.empty ∙
-    ap (λ (l : ℕ). with_count (with_unmerged old c.args.worker page 0) page (old.count page + l))
+    (ap (λ (n : Numbers). with_more n page likes) c.take_unmerged-likes.ensures.empty ∙
+    ap (λ (l : ℕ). with_more (with_unmerged old c.args.worker page 0) page l)
     c.take_unmerged-likes.ensures.likes)
