@@ -3,12 +3,16 @@ use Rattle.std.proofs.Common.{◌≡◌, ℕ, ◌+◌, ◌*◌, ◌-◌, ◌%◌
 use Rattle.std.proofs.lemmas.Bool.{cases_lt}
 use Rattle.like_core.specs.Phase.{IsJoined, IsSplit, last_phase}
 use Rattle.like_ending.specs.Progress.{AllAreGone, CrewProgress, WorkerProgress, remaining, remaining_in}
-use Rattle.like_ending.specs.FreshCoordTurns.{FreshCoordTurns, released, ends, counts, stays, announces, releases, waits}
+use Rattle.like_ending.specs.FreshCoordTurns.{FreshCoordTurns, ends, counts, stays, announces, releases, waits}
 use Rattle.like_ending.specs.InPhase.{IsCrewInPhase}
 use Rattle.like_ending.specs.Measures.{measure, one_until_all_in}
 use Rattle.like_ending.proofs.Served.{Served}
 use Rattle.like_ending.proofs.Rests.{all_in_none, cases_phase, joined_ending, joined_running, none_all_in, out_of, some_there, split_ending, split_running}
 use Rattle.like_ending.proofs.Falls.{answers_joined, answers_split, counts_joined, counts_split, releases_joined, releases_split, stays_joined}
+
+-- the next phase, with all its turns left
+abbrev released : CrewProgress → CrewProgress
+released c = record c { phase = c.phase + 1; ending = false; left = c.turns }
 
 -- the crew with these workers
 abbrev pub with_workers : CrewProgress → List WorkerProgress → CrewProgress

@@ -16,14 +16,11 @@ alone phase ending state items = record {
   workers = record { state = state; items = items; looks = 0 } ∷ [];
 }
 
--- at its start, with a request and the end mark
-abbrev pub one_request : CrewProgress
-one_request = alone 0 false (Runs 0) 2
-
--- it may last nine rounds, if the worker is idle in split phases; 15 are within the bound, and 16 are not
+-- with a request and the end mark it may last nine rounds, if the worker is idle in split phases; 15 are within the
+-- bound, and 16 are not
 pub record OneRequestLasts : Type 0 where
   pub last : CrewProgress
-  pub rounds : Unended IsFreshRound 9 one_request last
+  pub rounds : Unended IsFreshRound 9 (alone 0 false (Runs 0) 2) last
   pub ended : AllAreGone last
   pub within : MayLast 0 2 1 15
   pub beyond : ¬ MayLast 0 2 1 16

@@ -4,10 +4,6 @@ use Rattle.std.specs.Prelude.{◌≡◌, ◌+◌, ◌-◌, ◌<◌, true, false}
 use Rattle.like_core.specs.Phase.{last_phase}
 use Rattle.like_ending.specs.Progress.{AllAreGone, AllAreIn, CrewProgress}
 
--- the next phase, with all its turns left
-abbrev pub released : CrewProgress → CrewProgress
-released c = record c { phase = c.phase + 1; ending = false; left = c.turns }
-
 -- turn case of the coordinator: what it does, and the crew after
 pub data FreshCoordTurns (c after : CrewProgress) : Type 0 where
   ends : AllAreGone c → after ≡ c → FreshCoordTurns c after
@@ -17,5 +13,6 @@ pub data FreshCoordTurns (c after : CrewProgress) : Type 0 where
       → FreshCoordTurns c after
   announces : ¬ AllAreGone c → c.ending ≡ false → c.left ≡ 0 → c.phase < last_phase
       → after ≡ record c { ending = true } → FreshCoordTurns c after
-  releases : ¬ AllAreGone c → c.ending ≡ true → AllAreIn c → after ≡ released c → FreshCoordTurns c after
+  releases : ¬ AllAreGone c → c.ending ≡ true → AllAreIn c
+      → after ≡ record c { phase = c.phase + 1; ending = false; left = c.turns } → FreshCoordTurns c after
   waits : ¬ AllAreGone c → c.ending ≡ true → ¬ AllAreIn c → after ≡ c → FreshCoordTurns c after

@@ -6,21 +6,11 @@ use Rattle.like_ending.specs.InPhase.{IsCrewInPhase}
 use Rattle.like_ending.specs.Schedules.{TakeTurns, IsFairRound, IsFairStretch, IsFreshRound, HasTurn, Participant, TakesPart, Unended}
 use Rattle.like_ending.specs.Measures.{changes_in, distance, measure}
 
--- a start is in phase
-abbrev pub StartsInPhase : Type 0
-StartsInPhase = (c : CrewProgress) → IsStart c → IsCrewInPhase c
-
--- a crew in phase stays so with each turn, whether all lists are open or not
-abbrev pub StaysInPhase : Type 0
-StaysInPhase =
-    (all_open : Bool) (who : Participant) (c d : CrewProgress)
-    → IsCrewInPhase c → HasTurn all_open who c d → IsCrewInPhase d
-
--- no turn of a crew in phase raises what is left
-abbrev pub NoTurnRaises : Type 0
-NoTurnRaises =
-    (all_open : Bool) (who : Participant) (c d : CrewProgress)
-    → IsCrewInPhase c → HasTurn all_open who c d → remaining_in d ≤ remaining_in c
+-- a start is in phase; and each turn keeps a crew so, whether all lists are open or not, and doesn't raise what is left
+pub record StaysInPhase : Type 0 where
+  pub starts : (c : CrewProgress) → IsStart c → IsCrewInPhase c
+  pub stays : (all_open : Bool) (who : Participant) (c d : CrewProgress) → IsCrewInPhase c → HasTurn all_open who c d
+      → IsCrewInPhase d × (remaining_in d ≤ remaining_in c)
 
 -- a round that doesn't find all workers gone lowers the measure by more than the turns of a phase
 abbrev pub RoundsLower : Type 0

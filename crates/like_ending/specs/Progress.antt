@@ -2,7 +2,7 @@
 use Rattle.std.specs.Prelude.{◌≡◌, ℕ, ◌+◌, Bool, false, List}
 use Rattle.std.specs.List.{All, sum_by}
 use Rattle.like_core.specs.declared.worker_state.WorkerState.{WorkerState}
-use Rattle.like_core.specs.declared.worker_state.WorkerState.TheVariants.{Runs, Answered, Gone}
+use Rattle.like_core.specs.declared.worker_state.WorkerState.TheVariants.{Runs, Gone}
 use Rattle.like_core.specs.WorkerState.{IsIn}
 
 -- how far a worker is: its state, how many items of its submitters (requests and end marks) it has yet to take, and how
@@ -23,9 +23,8 @@ pub record CrewProgress : Type 0 where
 
 -- 1 until the worker is gone
 abbrev pub one_until_gone : WorkerState → ℕ
-one_until_gone (Runs phase) = 1
-one_until_gone (Answered phase) = 1
 one_until_gone Gone = 0
+one_until_gone _ = 1
 
 -- what is left of a worker: its items, its looks, and 1 until it is gone
 abbrev pub remaining : WorkerProgress → ℕ

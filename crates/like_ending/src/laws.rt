@@ -1,20 +1,10 @@
 //! The laws of rounds and of fair schedules. Each is the contract of a function that does nothing.
 ghost use Rattle.like_ending.specs.Example.{OneRequestLasts};
-ghost use Rattle.like_ending.specs.Laws.{StartsInPhase, StaysInPhase, NoTurnRaises, RoundsLower, RoundsEnd, FairRoundsEnd, FairStretchesLower, FairSchedulesEnd, AllCanTurn};
+ghost use Rattle.like_ending.specs.Laws.{StaysInPhase, RoundsLower, RoundsEnd, FairRoundsEnd, FairStretchesLower, FairSchedulesEnd, AllCanTurn};
 
-/// At its start a crew is in phase.
-pub fn starts_in_phase()
-    ensures { StartsInPhase }
-{}
-
-/// Each turn keeps it in phase.
+/// At its start a crew is in phase. Each turn keeps it so, and no turn of anybody raises what is left.
 pub fn stays_in_phase()
     ensures { StaysInPhase }
-{}
-
-/// No turn of anybody raises what is left.
-pub fn no_turn_raises()
-    ensures { NoTurnRaises }
 {}
 
 /// Each round lowers what is left of the crew and of the phase, taken together (`measure`).

@@ -8,7 +8,7 @@ use Rattle.like_ending.specs.Progress.{AllAreGone, CrewProgress, WorkerProgress}
 use Rattle.like_ending.specs.FreshTurns.{FreshWorks, acknowledges, idles, reports, retires, saw, takes_joined, works}
 use Rattle.like_ending.specs.FreshCoordTurns.{announces, releases}
 use Rattle.like_ending.specs.Schedules.{IsFreshRound, Unended}
-use Rattle.like_ending.specs.Example.{alone, one_request}
+use Rattle.like_ending.specs.Example.{alone}
 use Rattle.like_ending.proofs.laws.one_request_lasts.Goals as goal
 
 -- the worker, with so many items
@@ -97,7 +97,7 @@ from_1 =
     releases_then 7 0 (Answered 0) (Runs 1) 2 2 end refl (has_answered 0) (idles refl refl refl)
     (announces_then 6 1 (Runs 1) (Answered 1) 2 2 end (omega arith) (runs 1) (reports refl refl refl) from_2)
 
-from_0 : Unended IsFreshRound 9 one_request end
+from_0 : Unended IsFreshRound 9 (alone 0 false (Runs 0) 2) end
 from_0 =
     announces_then 8 0 (Runs 0) (Answered 0) 2 2 end (omega arith) (runs 0)
     (acknowledges refl refl (omega arith) refl refl) from_1

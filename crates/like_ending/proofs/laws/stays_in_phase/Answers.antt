@@ -1,5 +1,10 @@
 use Rattle.like_ending.proofs.CrewFacts.{crew_keeps}
+use Rattle.like_ending.proofs.Ends.{starts_in_phase}
 use Rattle.like_ending.proofs.laws.stays_in_phase.Goals as goal
 
 pub returns : goal.returns
-returns c = λ all_open who b d p t. (crew_keeps all_open who b d p t).in_phase
+returns c = record {
+  starts = starts_in_phase;
+  stays = λ all_open who b d p t.
+      let k = crew_keeps all_open who b d p t in (k.in_phase, k.less);
+}
