@@ -5,9 +5,9 @@ use Rattle.std.specs.Option.{option_map_or}
 use Rattle.like_requests.specs.Pages.{Page}
 use Rattle.like_promises.specs.declared.log.Ran.{Ran}
 use Rattle.like_promises.specs.declared.reply.Reply.{Reply}
-use Rattle.like_promises.specs.declared.reply.Reply.TheVariants.{Liked, Seen, Refused}
+use Rattle.like_promises.specs.declared.reply.Reply.TheVariants.{Seen}
 use Rattle.like_promises.specs.Asked.{asked, asks}
-use Rattle.like_promises.specs.Store.{Ask, like, look, refuse}
+use Rattle.like_promises.specs.Store.{Ask, like, look}
 use Rattle.like_promises.specs.Workload.{Workload}
 
 -- whether what is asked is a like of the page
@@ -37,9 +37,8 @@ initial_count pages page = option_map_or (λ p. p.count) (slice_get pages page) 
 
 -- the page of a look that is asked
 abbrev pub page_asked : Ask → Option ℕ
-page_asked (like user page) = None
 page_asked (look user page) = Some page
-page_asked (refuse why) = None
+page_asked _ = None
 
 -- the page of the look that an entry ran, if it ran one
 abbrev pub look_ran : Workload → Ran → Option ℕ
@@ -47,6 +46,5 @@ look_ran workload e = option_and_then page_asked (asked workload e.submitter e.n
 
 -- the count in a reply, and 0 where it has none
 abbrev pub count_in : Reply → ℕ
-count_in Liked = 0
 count_in (Seen last count) = count
-count_in (Refused verdict) = 0
+count_in _ = 0

@@ -5,14 +5,13 @@ use Rattle.std.specs.Option.{option_map_or}
 use Rattle.like_promises.specs.declared.log.Ran.{Ran}
 use Rattle.like_promises.specs.declared.log.Took.{Took}
 use Rattle.like_promises.specs.Asked.{asked}
-use Rattle.like_promises.specs.Store.{Ask, like, look, refuse}
+use Rattle.like_promises.specs.Store.{Ask, look}
 use Rattle.like_promises.specs.Workload.{Workload, is_split_in}
 
 -- whether what is asked has to wait, where these pages are split: a look at one of them
 abbrev pub must_wait : (ℕ → Bool) → Ask → Bool
 must_wait is_split (look user page) = is_split page
-must_wait is_split (like user page) = false
-must_wait is_split (refuse why) = false
+must_wait is_split _ = false
 
 -- whether what was taken had to wait, in the phase in which it was taken
 abbrev pub waited : Workload → Took → Bool

@@ -2,7 +2,7 @@
 use Rattle.std.specs.Prelude.{◌≡◌, ℕ, suc, List, take, drop, slice_get, Some, option_map}
 use Rattle.like_promises.specs.declared.log.Ran.{Ran}
 use Rattle.like_promises.specs.declared.reply.Reply.{Reply}
-use Rattle.like_promises.specs.declared.reply.Reply.TheVariants.{Liked, Seen, Refused}
+use Rattle.like_promises.specs.declared.reply.Reply.TheVariants.{Seen}
 use Rattle.like_promises.specs.Asked.{asked}
 use Rattle.like_promises.specs.Likes.{count_in, likes_within, look_ran}
 use Rattle.like_promises.specs.RunStore.{Between, store_after}
@@ -11,9 +11,8 @@ use Rattle.like_promises.specs.Workload.{Workload}
 
 -- a reply, its count aside
 abbrev pub uncounted : Reply → Reply
-uncounted Liked = Liked
 uncounted (Seen last count) = Seen last 0
-uncounted (Refused why) = Refused why
+uncounted answer = answer
 
 -- right answer: the entry's reply is that of the store after these entries, the count aside
 abbrev pub IsRightAnswer : Workload → List Ran → Ran → Type 0

@@ -27,8 +27,7 @@ after s (like user page) = record {
   count = λ p. s.count p + (if page == p then 1 else 0);
   last = λ u. if user == u then Some page else s.last u;
 }
-after s (look user page) = s
-after s (refuse why) = s
+after s _ = s
 
 -- what it replies to all of these, one after the other
 abbrev pub replies : Store → List Ask → List Reply
