@@ -12,9 +12,7 @@ class Uses:
     def __init__(self, text):
         self.names, self.others = {}, {}
         for use in re.finditer(r"^(?:pub |ghost )?use Rattle\.(\S+?)\.\{([^}]*)\};?$", text, re.M):
-            for used in use[2].split(","):
-                name, _, other = used.strip().partition(" as ")
-                self.names[other or name] = module_of(use[1]), name
+            self.names.update(names_in(module_of(use[1]), use[2]))
         for use in re.finditer(r"^(?:ghost )?use Rattle\.(\S+) as (\w+);?$", text, re.M):
             self.others[use[2]] = module_of(use[1])
 
@@ -28,10 +26,13 @@ class Uses:
 
 class Module(Uses):
     """A file of specs/: its first line, its definitions with their comments, the variables of the blocks around each,
-    and where the names it uses are from."""
+    where the names it uses are from, and which types of its crate it passes on."""
 
     def __init__(self, name, text):
         super().__init__(text)
+        self.passed = {}
+        for use in re.finditer(r"^pub use (declared\b.*)\.\{(.*)\}$", text, re.M):
+            self.passed.update(names_in(f"{name.split('.')[0]}.{use[1]}", use[2]))
         first = text.split("\n", 1)[0]
         self.name, self.about = name, first.removeprefix("-- ").rstrip(".") if first.startswith("-- ") else ""
         self.defined, self.around = {}, {}
@@ -63,7 +64,20 @@ def outside(blocks, indent):
 
 
 def module_of(path):
-    return path.replace(".specs.", ".", 1)
+    return re.sub(r"\.specs\b", "", path, count=1)
+
+
+def names_in(module, listed):
+    """Names that a line brings in from a module or from those below it: where each is from."""
+    for used in listed.split(","):
+        path, _, other = used.strip().partition(" as ")
+        *below, name = path.split(".")
+        yield other or name, (".".join([module, *below]), name)
+
+
+def origin(found, source):
+    """The module and the name of a definition, if another module passes it on."""
+    return found[source[0]].passed.get(source[1], source) if source[0] in found else source
 
 
 def read(path):
