@@ -3,7 +3,7 @@ use Rattle.std.specs.Prelude.{◌≡◌, ◌≢◌, ℕ, List, [], ◌∷◌, �
 use Rattle.like_promises.specs.declared.log.Ran.{Ran}
 use Rattle.like_collection.specs.declared.collect_fault.CollectFault.{CollectFault}
 use Rattle.like_collection.specs.declared.collect_fault.CollectFault.TheVariants.{Stranger, Double, Missing, Memory}
-use Rattle.like_collection.specs.Entries.{AreGood, IsRequest, Precedes}
+use Rattle.like_collection.specs.Entries.{AreGood, IsLeast, IsRequest}
 use Rattle.like_promises.specs.Collected.{entries_of}
 
 -- the first bad entry has this submitter and number: the entries before it are good, and with them the fact makes it bad
@@ -18,13 +18,6 @@ pub record IsFirstBadEntry (sizes : List ℕ) (entries : List Ran) (submitter nu
   pub good : AreGood sizes before
   pub bad : Bad before
 
--- the entries are good, and the request is the least that has none
-pub record IsFirstMissing (sizes : List ℕ) (entries : List Ran) (submitter number : ℕ) : Type 0 where
-  pub good : AreGood sizes entries
-  pub request : IsRequest sizes submitter number
-  pub missing : entries_of submitter number entries ≡ []
-  pub least : (s m : ℕ) → IsRequest sizes s m → Precedes s m submitter number → entries_of s m entries ≢ []
-
 -- the first entry that is bad is of no request, or has the same request as an earlier one
 abbrev pub IsEntryFault : List ℕ → List Ran → CollectFault → Type 0
 IsEntryFault sizes entries (Stranger submitter number) =
@@ -32,12 +25,11 @@ IsEntryFault sizes entries (Stranger submitter number) =
 IsEntryFault sizes entries (Double submitter number) =
     IsFirstBadEntry sizes entries submitter number
     (λ before. IsRequest sizes submitter number × (entries_of submitter number before ≢ []))
-IsEntryFault sizes entries (Missing submitter number) = ⊥
-IsEntryFault sizes entries Memory = ⊥
+IsEntryFault sizes entries fault = ⊥
 
 -- why there is not one answer for each request: the first bad entry, or else the least request that has no entry
 abbrev pub IsCollectFault : List ℕ → List Ran → CollectFault → Type 0
-IsCollectFault sizes entries (Missing submitter number) = IsFirstMissing sizes entries submitter number
+IsCollectFault sizes entries (Missing submitter number) =
+    AreGood sizes entries × IsLeast (IsRequest sizes) (λ s m. entries_of s m entries ≡ []) submitter number
 IsCollectFault sizes entries Memory = ⊤
-IsCollectFault sizes entries (Stranger submitter number) = IsEntryFault sizes entries (Stranger submitter number)
-IsCollectFault sizes entries (Double submitter number) = IsEntryFault sizes entries (Double submitter number)
+IsCollectFault sizes entries fault = IsEntryFault sizes entries fault

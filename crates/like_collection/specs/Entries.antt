@@ -9,9 +9,11 @@ pub record IsRequest (sizes : List ℕ) (submitter number : ℕ) : Type 0 where
   pub from_one : 1 ≤ number
   pub within : number ≤ slice_index sizes submitter
 
--- a request comes before another: it is of an earlier submitter, or of the same one with a lower number
-abbrev pub Precedes : ℕ → ℕ → ℕ → ℕ → Type 0
-Precedes s m submitter number = (s < submitter) ⊎ ((s ≡ submitter) × (m < number))
+-- of all requests, in the order of the submitters and their numbers, this is the first that lacks something
+pub record IsLeast (Is Lacks : ℕ → ℕ → Type 0) (submitter number : ℕ) : Type 0 where
+  pub is : Is submitter number
+  pub lacks : Lacks submitter number
+  pub least : (s m : ℕ) → Is s m → (s < submitter) ⊎ ((s ≡ submitter) × (m < number)) → ¬ Lacks s m
 
 -- each entry is of a request, and no two are of the same
 pub record AreGood (sizes : List ℕ) (entries : List Ran) : Type 0 where

@@ -27,7 +27,7 @@ use Rattle.clap.specs.declared.parser.matches.ValueSource.{ValueSource}
 use Rattle.clap.specs.declared.parser.matches.ValueSource.TheVariants.{DefaultValue}
 use Rattle.like_command.specs.declared.asked.Asked.{Asked}
 use Rattle.like_command.specs.declared.asked.Asked.TheVariants.{Run, Replay, Help}
-use Rattle.like_command.specs.Asked.{Asks, MeansAsked, entered_of, faults_of, spelled_out, GivesReplay, GivesRun, HasAll, HasFlag, HasNumber, IsEntered, MayHaveNumber}
+use Rattle.like_command.specs.Asked.{Asks, MeansAsked, entered_of, faults_of, spelled_out, HasAll, HasFlag, HasNumber, IsEntered, MayHaveNumber}
 use Rattle.like_command.specs.CommandLine.{likes_app, replay_command, run_command}
 use Rattle.like_command.proofs.Walked.{AllFit, FirstPasses, Good, IsGood, good_defaults, good_settled, good_walk, neither, some_kind}
 
@@ -408,8 +408,8 @@ pub asks : (words : List Text) (m : ArgMatches) (asked : Asked)
     → subcommand_rows_of m ≡ entered_of words
     → MeansAsked (subcommand_rows_of m) asked
     → Asks words asked
-asks words m (Run options) none same h = (none, subst (λ found. GivesRun found options) same h)
-asks words m (Replay options) none same h = (none, subst (λ found. GivesReplay found options) same h)
+asks words m (Run options) none same h = (none, subst (λ found. MeansAsked found (Run options)) same h)
+asks words m (Replay options) none same h = (none, subst (λ found. MeansAsked found (Replay options)) same h)
 asks words m (Help text) none same h = absurd h
 
 -- ---- a parse

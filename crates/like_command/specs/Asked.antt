@@ -1,5 +1,6 @@
 -- What words ask for.
-use Rattle.std.specs.Prelude.{◌≡◌, ◌≢◌, ◌≤◌, ◌<◌, ◌⊎◌, ◌++◌, ℕ, Bool, if◌then◌else◌, List, [], ◌∷◌, length, map, codes, pos, Option, None, Some, option_map, IsSomeAnd, string_bytes, take, MatchOption, MatchResult, Result, ⊤}
+use Rattle.std.specs.Prelude.{◌≡◌, ◌≢◌, ◌≤◌, ◌<◌, ◌⊎◌, ◌++◌, ℕ, Bool, if◌then◌else◌, List, [], ◌∷◌, length, map, codes, pos, Option, None, Some, option_map, IsSomeAnd, String, string_bytes, take, MatchOption, ⊤}
+use Rattle.std.specs.declared.alloc.Global.{Global}
 use Rattle.std.specs.Str.{bytes_eq}
 use Rattle.std.specs.Str.Parse.{IsNumeral, digits_value, without_leading_plus}
 use Rattle.clap.specs.Kinds.{IsAmong, Kinds}
@@ -75,24 +76,20 @@ pub record HasValues (rows : List Row) (o : Options) : Type 0 where
 abbrev pub IsEntered : Option (Text × List Row) → List Row → Type 0
 IsEntered entered rows = (entered ≡ Some (codes "run", rows)) ⊎ (entered ≡ Some (codes "replay", rows))
 
--- what was entered gives a run these options
-pub record GivesRun (entered : Option (Text × List Row)) (o : Options) : Type 0 where
+-- what was entered is this subcommand, and gives these options, with a script of which this holds
+pub record Gives (name : Text) (Scripts : List Row → Option (String Global) → Type 0)
+    (entered : Option (Text × List Row)) (o : Options) : Type 0 where
   pub rows : List Row
-  pub matched : entered ≡ Some (codes "run", rows)
+  pub matched : entered ≡ Some (name, rows)
   pub values : HasValues rows o
-  pub script : o.script ≡ None
-
--- what was entered gives a replay these options
-pub record GivesReplay (entered : Option (Text × List Row)) (o : Options) : Type 0 where
-  pub rows : List Row
-  pub matched : entered ≡ Some (codes "replay", rows)
-  pub values : HasValues rows o
-  pub script : first_of (codes "script") rows ≡ option_map string_bytes o.script
+  pub script : Scripts rows o.script
 
 -- what was entered asks for that
 abbrev pub MeansAsked : Option (Text × List Row) → Asked → Type 0
-MeansAsked entered (Run options) = GivesRun entered options
-MeansAsked entered (Replay options) = GivesReplay entered options
+MeansAsked entered (Run options) = Gives (codes "run") (λ _ script. script ≡ None) entered options
+MeansAsked entered (Replay options) =
+    Gives (codes "replay") (λ rows script. first_of (codes "script") rows ≡ option_map string_bytes script)
+    entered options
 MeansAsked entered (Help text) = ⊥
 
 -- the words after the program's name, each by its bytes
@@ -118,9 +115,8 @@ AsksForHelp words = IsAmong DisplayHelp (faults_of words) ⊎ IsAmong DisplayVer
 
 -- what the words ask for: a run or a replay where they have no fault
 abbrev pub Asks : Words → Asked → Type 0
-Asks words (Run options) = (faults_of words ≡ []) × GivesRun (entered_of words) options
-Asks words (Replay options) = (faults_of words ≡ []) × GivesReplay (entered_of words) options
 Asks words (Help text) = AsksForHelp words
+Asks words asked = (faults_of words ≡ []) × MeansAsked (entered_of words) asked
 
 -- a fault that is no request for help or for the version
 abbrev pub IsMistake : ErrorKind → Type 0
@@ -130,7 +126,3 @@ IsMistake kind = (kind ≢ DisplayHelp) × (kind ≢ DisplayVersion)
 abbrev pub IsParseFault : Words → ParseFault → Type 0
 IsParseFault words (Usage text) = (kind : ErrorKind) × IsAmong kind (faults_of words) × IsMistake kind
 IsParseFault words Memory = ⊤
-
--- the answer to words for which clap gives no matches
-abbrev pub RefusesWords : Words → Result Asked ParseFault → Type 0
-RefusesWords words result = MatchResult result (Asks words) (IsParseFault words)

@@ -7,30 +7,22 @@ use Rattle.clap.specs.declared.builder.action.ArgAction.TheVariants.{Append, Set
 use Rattle.clap.specs.declared.builder.value_parser.ValueParser.TheVariants as vp
 use Rattle.like_limits.specs.Limits.{max_hot, max_stash, max_turns, max_users, max_workers}
 
+-- an option for a text
+abbrev pub text_rule : Text → Rule
+text_rule name = record (new_rule name) { long = Some name; value_names = 1; action = Some Set }
+
 -- an option for a whole number within bounds, which may be left out
 abbrev pub bounded_rule : Text → ℕ → ℕ → Rule
-bounded_rule name least most = record (new_rule name) {
-  long = Some name;
-  value_names = 1;
-  action = Some Set;
-  parser = Some (vp.Signed (pos least) (pos most));
-}
+bounded_rule name least most = record (text_rule name) { parser = Some (vp.Signed (pos least) (pos most)) }
 
--- an option for a whole number within bounds, with its default
-abbrev pub number_rule : Text → Text → ℕ → ℕ → Rule
-number_rule name default least most = record (bounded_rule name least most) { defaults = default ∷ [] }
-
--- an argument with a short name of this letter too
-abbrev pub with_letter : ℕ → Rule → Rule
-with_letter letter rule = record rule { short = Some letter }
+-- an option for a whole number within bounds, with a letter as a short name and a default
+abbrev pub number_rule : Text → ℕ → Text → ℕ → ℕ → Rule
+number_rule name letter default least most =
+    record (bounded_rule name least most) { short = Some letter; defaults = default ∷ [] }
 
 -- an option without a value
 abbrev pub flag_rule : Text → Rule
 flag_rule name = record (new_rule name) { long = Some name; action = Some SetTrue }
-
--- an option for a text
-abbrev pub text_rule : Text → Rule
-text_rule name = record (new_rule name) { long = Some name; value_names = 1; action = Some Set }
 
 -- a text that is required
 abbrev pub required_rule : Text → Rule
@@ -38,19 +30,17 @@ required_rule name = record (new_rule name) { value_names = 1; required = true; 
 
 -- one text or more that are required
 abbrev pub required_list_rule : Text → Rule
-required_list_rule name = record (new_rule name) {
-  value_names = 1;
-  required = true;
+required_list_rule name = record (required_rule name) {
   action = Some Append;
   range = Some (record { start_inclusive = 1; end_inclusive = usize_max });
 }
 
 -- the options of runs and replays with a number and a default, which are -w, -u, -s and -t too
 abbrev pub number_rules : List Rule
-number_rules = with_letter 119 (number_rule (codes "workers") (codes "4") 1 max_workers)
-    ∷ with_letter 117 (number_rule (codes "users") (codes "1000") 1 max_users)
-    ∷ with_letter 115 (number_rule (codes "stash") (codes "256") 1 max_stash)
-    ∷ with_letter 116 (number_rule (codes "turns") (codes "1000") 0 max_turns)
+number_rules = number_rule (codes "workers") 119 (codes "4") 1 max_workers
+    ∷ number_rule (codes "users") 117 (codes "1000") 1 max_users
+    ∷ number_rule (codes "stash") 115 (codes "256") 1 max_stash
+    ∷ number_rule (codes "turns") 116 (codes "1000") 0 max_turns
     ∷ []
 
 -- all options of runs and replays

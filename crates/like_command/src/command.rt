@@ -2,7 +2,7 @@ ghost use Rattle.std.specs.List.{AllZip};
 ghost use Rattle.std.specs.Prelude.{◌≡◌, ◌∷◌, ◌++◌, [], IfOk, List, OnOk, codes, drop, fold, true};
 ghost use Rattle.clap.specs.Words.{Rule, app_of, new_app, with_rule};
 ghost use Rattle.like_command.specs.Built.{IsArgument, IsCommand, IsSubcommand};
-ghost use Rattle.like_command.specs.CommandLine.{bounded_rule, files_rules, flag_rule, likes_app, number_rule, number_rules, option_rules, replay_command, required_list_rule, required_rule, run_command, text_rule, with_letter};
+ghost use Rattle.like_command.specs.CommandLine.{bounded_rule, files_rules, flag_rule, likes_app, number_rule, number_rules, option_rules, replay_command, required_list_rule, required_rule, run_command, text_rule};
 
 use crate::help;
 use clap::builder::ValueParser;
@@ -39,7 +39,7 @@ fn number_option<'a>(
     most: u32,
     help: &'a str,
 ) -> Arg<'a>
-    ensures { IsArgument (with_letter letter (number_rule name.entry.now default.entry.now least most)) result }
+    ensures { IsArgument (number_rule name.entry.now letter default.entry.now least most) result }
 {
     bounded_option(alloc, name, value_name, least, most, help)
         .default_value(default)

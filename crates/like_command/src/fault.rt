@@ -1,6 +1,6 @@
 ghost use Rattle.std.specs.Prelude.{◌≡◌, IsTrue};
 ghost use Rattle.std.specs.Io.KnownBytes.{Appends};
-ghost use Rattle.like_command.specs.Fault.{line_of, status_of};
+ghost use Rattle.like_command.specs.Fault.{told};
 
 use std::alloc::AllocError;
 use std::io::Write;
@@ -33,7 +33,7 @@ impl From<AllocError> for ParseFault {
 impl ParseFault {
     /// The exit status.
     pub fn status(&self) -> u8
-        ensures { result ≡ status_of self.now }
+        ensures { result ≡ (told self.now).0 }
     {
         match self {
             ParseFault::Usage(_) => 2,
@@ -45,7 +45,7 @@ impl ParseFault {
     /// been written.
     pub fn line<W: Write>(&self, out: &mut W) -> bool
         ensures { IsTrue result
-            → Appends (W.contents out.old) (W.contents out.new) (line_of self.now) }
+            → Appends (W.contents out.old) (W.contents out.new) (told self.now).1 }
     {
         let text = match self {
             ParseFault::Usage(text) => text.as_str(),

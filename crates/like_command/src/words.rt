@@ -1,8 +1,8 @@
-ghost use Rattle.std.specs.Prelude.{◌≡◌, List, IfErr, IfOk, map};
+ghost use Rattle.std.specs.Prelude.{◌≡◌, List, IfErr, IfOk, MatchResult, map};
 ghost use Rattle.clap.specs.Words.{Text};
 ghost use Rattle.clap.specs.Walk.{texts};
 ghost use Rattle.clap.specs.Kinds.{HasKind};
-ghost use Rattle.like_command.specs.Asked.{Asks, IsParseFault, RefusesWords, faults_of, spelled_out};
+ghost use Rattle.like_command.specs.Asked.{Asks, IsParseFault, faults_of, spelled_out};
 
 use crate::asked::Asked;
 use crate::command::likes_command;
@@ -55,7 +55,8 @@ fn texts_of<'w, S: AsStr>(alloc: Global, words: &'w [S]) -> Result<Vec<&'w str>,
 // What words ask for that have no matches: help, the version, or nothing.
 fn refused(alloc: Global, error: &Error) -> Result<Asked, ParseFault>
     ensures { (words : List Text)
-        → HasKind (faults_of words) error.now → RefusesWords words result }
+        → HasKind (faults_of words) error.now
+        → MatchResult result (Asks words) (IsParseFault words) }
 {
     if error.kind() == ErrorKind::OutOfMemory {
         return Err(ParseFault::Memory);

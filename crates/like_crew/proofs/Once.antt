@@ -63,7 +63,7 @@ no-fault sizes entries (Double submitter number) r f =
       counted sizes entries submitter number _ f,
     ))
 no-fault sizes entries (Missing submitter number) r f =
-    absurd (omega (arith, r.requests submitter number f.request, ap (λ (xs : List Ran). length xs) f.missing))
+    absurd (omega (arith, r.requests submitter number f.1.is, ap (λ (xs : List Ran). length xs) f.1.lacks))
 no-fault sizes entries Memory r f = refl
 
 -- if the logs have one entry for each request and no other, only memory can be lacking

@@ -12,6 +12,7 @@ use Rattle.like_promises.specs.places.Tiling.{ArePlacesTiled}
 use Rattle.like_promises.specs.Report.{IsReportOf, workload_by}
 use Rattle.like_limits.specs.Limits.{max_requests}
 use Rattle.like_requests.specs.Pages.{Page}
+use Rattle.like_requests.specs.PagesFile.{IsPagesFile}
 use Rattle.like_requests.proofs.Planned.{worker-within}
 use Rattle.like_requests.specs.Setup.{IsWithinLimits}
 use Rattle.like_requests.specs.declared.request.Request.{Request}
@@ -26,7 +27,7 @@ use Rattle.like_promises.specs.declared.run_fault.RunFault.TheVariants as thread
 use Rattle.like_requests.specs.declared.script.Turned.{Turned}
 use Rattle.like_replies.specs.Summary.{requests_in}
 use Rattle.like_files.specs.Faults.{IsBeforeOutput, fault_of, fault_of_replay, fault_of_run}
-use Rattle.like_files.specs.Inputs.{GivesPages, GivesScript, RefusesLists, RefusesPlans}
+use Rattle.like_files.specs.Inputs.{GivesScript, OfRecords, RefusesLists, RefusesPlans}
 use Rattle.like_files.specs.Replay.{IsReplayListsFault, IsReplayScriptFault}
 use Rattle.like_files.specs.Run.{IsRunListsFault}
 use Rattle.like_files.specs.declared.fault.DriverFault.{DriverFault}
@@ -70,7 +71,7 @@ few_requests setup plans notes report within is =
 
 -- request files that were refused, where the pages file gives these pages
 pub lists-refused : (file : Option (List ℕ)) (files : List (Option (List ℕ))) (pages : List Page) (fault : DriverFault)
-    → GivesPages file pages
+    → OfRecords file (λ rows. IsPagesFile rows pages)
     → RefusesPlans pages files fault
     → RefusesLists file files fault
 lists-refused file files pages (Pages fault) given refused = absurd refused

@@ -13,8 +13,8 @@ use Rattle.like_requests.specs.declared.requests_file.RequestsFault.TheVariants.
 use Rattle.like_requests.specs.declared.setup.Setup.{Setup}
 use Rattle.like_requests.specs.declared.script.Turned.{Turned}
 use Rattle.like_files.proofs.Planned.{requests_of}
-use Rattle.like_files.specs.FailedReads.{TellsPlanRead, TellsRead}
-use Rattle.like_files.specs.Inputs.{GivesPlan, GivesPlans, RefusesPlans}
+use Rattle.like_files.specs.FailedReads.{TellsRead}
+use Rattle.like_files.specs.Inputs.{GivesPlan, GivesPlans}
 use Rattle.like_files.specs.Plans.{Answer, IsFirstStop, Stops}
 use Rattle.like_files.specs.Replay.{IsReplayListsFault}
 use Rattle.like_files.specs.Run.{IsRunListsFault}
@@ -25,14 +25,18 @@ use Rattle.like_files.specs.declared.fault.DriverFault.TheVariants as driver
 abbrev pub TellsOwn : {R : Type 0} → R → Answer → Type 0
 TellsOwn reader answer = IfErr answer (λ fault. fault ≡ Read → ReadFailed reader)
 
+-- what is told of a fault of the request files, whatever the other files are
+abbrev pub TellsPlanRead : {R : Type 0} → List R → DriverFault → Type 0
+TellsPlanRead {R = Reader} readers fault = (file : Reader) (script : Option Reader) → TellsRead file readers script fault
+
 -- the file at this place gave no plan
 pub plan-told : {R : Type 0} (readers : List R) (place : ℕ) (reader : R) (answer : Answer) (fault : DriverFault)
     → slice_get readers place ≡ Some reader
     → TellsOwn reader answer
     → Stops answer place fault
     → TellsPlanRead readers fault
-plan-told readers place reader answer fault at own stops =
-    subst (TellsPlanRead readers) (sym stops.named) (λ is. (place, refl, rw at (by_answer stops.why stops.stood is)))
+plan-told readers place reader answer fault at own stops = λ file script.
+    subst (TellsRead file readers script) (sym stops.named) (λ is. rw at (by_answer stops.why stops.stood is))
   where
     by_answer : (why : RequestsFault) → (answer ≡ Err why) ⊎ (why ≡ Memory) → why ≡ Read → ReadFailed reader
     by_answer why (inl stood) is = (subst (TellsOwn reader) stood own) is
@@ -78,35 +82,24 @@ pub gathered-told : {R : Type 0} (readers : List R) (answers : List Answer)
     (result : Result (Vec (Vec Request Global) Global) DriverFault)
     → AllZip TellsOwn readers answers
     → MatchResult result (λ plans. answers ≡ map Ok plans.items) (IsFirstStop answers)
-    → IfErr result (TellsPlanRead readers)
-gathered-told readers answers (Ok plans) own gathered = tt
-gathered-told readers answers (Err fault) own gathered = told-in_parallel readers answers fault own gathered
+    → (file : R) (script : Option R) → IfErr result (TellsRead file readers script)
+gathered-told readers answers (Ok plans) own gathered file script = tt
+gathered-told readers answers (Err fault) own gathered file script =
+    told-in_parallel readers answers fault own gathered file script
 
 module _ {R : Type 0} (pages : R) (requests : List R) where
-  -- request files that were refused are told by a fault of theirs
-  pub plans-told : (script : Option R) (given : List Page) (sources : List (Option (List ℕ))) (fault : DriverFault)
-      → RefusesPlans given sources fault → TellsPlanRead requests fault → TellsRead pages requests script fault
-  plans-told script given sources (driver.Requests submitter fault) refused told = told
-  plans-told script given sources (driver.Pages fault) refused told = absurd refused
-  plans-told script given sources (driver.Script fault) refused told = absurd refused
-  plans-told script given sources (driver.Settings fault) refused told = tt
-  plans-told script given sources driver.Start refused told = tt
-  plans-told script given sources driver.Unfinished refused told = tt
-  plans-told script given sources driver.Write refused told = tt
-  plans-told script given sources driver.Memory refused told = tt
-
   -- what the files give is run or replayed with no fault of a file
-  pub run-told : {A : Type 0} (setup : Setup) (plans : List (List Request)) (r : Result A DriverFault)
-      → IfErr r (IsRunListsFault setup plans) → IfErr r (TellsRead pages requests None)
-  run-told setup plans (Ok done) refused = tt
-  run-told setup plans (Err (driver.Pages fault)) refused = absurd refused
-  run-told setup plans (Err (driver.Requests submitter fault)) refused = absurd refused
-  run-told setup plans (Err (driver.Script fault)) refused = absurd refused
-  run-told setup plans (Err (driver.Settings fault)) refused = tt
-  run-told setup plans (Err driver.Start) refused = tt
-  run-told setup plans (Err driver.Unfinished) refused = tt
-  run-told setup plans (Err driver.Write) refused = tt
-  run-told setup plans (Err driver.Memory) refused = tt
+  pub run-told : {A : Type 0} (script : Option R) (setup : Setup) (plans : List (List Request))
+      (r : Result A DriverFault) → IfErr r (IsRunListsFault setup plans) → IfErr r (TellsRead pages requests script)
+  run-told script setup plans (Ok done) refused = tt
+  run-told script setup plans (Err (driver.Pages fault)) refused = absurd refused
+  run-told script setup plans (Err (driver.Requests submitter fault)) refused = absurd refused
+  run-told script setup plans (Err (driver.Script fault)) refused = absurd refused
+  run-told script setup plans (Err (driver.Settings fault)) refused = tt
+  run-told script setup plans (Err driver.Start) refused = tt
+  run-told script setup plans (Err driver.Unfinished) refused = tt
+  run-told script setup plans (Err driver.Write) refused = tt
+  run-told script setup plans (Err driver.Memory) refused = tt
 
   pub replay-told : {A : Type 0} (script : Option R) (setup : Setup) (plans : List (List Request))
       (entries : List Turned) (r : Result A DriverFault) → IfErr r (IsReplayListsFault setup plans entries)

@@ -1,5 +1,5 @@
 -- The plans that the request files give, one file after the other.
-use Rattle.std.proofs.Common.{◌≡◌, ℕ, zero, suc, ◌<◌, List, [], ◌∷◌, ◌++◌, length, map, get_or, take, min, Option, None, Some, Result, Ok, Err, MatchResult, Vec, Global, refl, sym, ap, ◌∙◌, subst, inl, inr, arith, option_map}
+use Rattle.std.proofs.Common.{◌≡◌, ℕ, zero, suc, ◌<◌, List, [], ◌∷◌, ◌++◌, length, map, get_or, take, Option, None, Some, Result, Ok, Err, MatchResult, Vec, Global, refl, sym, ap, ◌∙◌, subst, inl, inr, arith, option_map}
 use Rattle.std.proofs.lemmas.List.{length-map, map-append, take-map}
 use Rattle.std.proofs.lemmas.Option.{get_or_from_slice_get, slice_get-map, slice_get_read, slice_get_within}
 use Rattle.std.proofs.lemmas.Slice.Zip.{AllZip-long, AllZip-right}
@@ -14,7 +14,7 @@ use Rattle.like_requests.specs.declared.requests_file.RequestsFault.TheVariants.
 use Rattle.like_promises.proofs.Lists.{AllZip-more}
 use Rattle.like_replies.proofs.Lists.{AllZip-by_place}
 use Rattle.like_files.specs.Inputs.{GivesPlan, GivesPlans, OfRecords, RefusesPlan, RefusesPlans}
-use Rattle.like_files.specs.Plans.{AddsPlan, Answer, IsFirstStop, Stops}
+use Rattle.like_files.specs.Plans.{Answer, IsFirstStop, Stops}
 use Rattle.like_files.specs.declared.fault.DriverFault.{DriverFault}
 use Rattle.like_files.specs.declared.fault.DriverFault.TheVariants as driver
 
@@ -57,14 +57,40 @@ refused_by source_of pages reader answer why reads (inl is) = subst (Reads sourc
 refused_by source_of pages reader answer why reads (inr is) =
     subst (RefusesPlan (source_of reader)) (sym is) (λ rows there. tt)
 
+-- the answer is a plan, which was added
+pub record AddsPlan (answer : Answer) (old new : List (Vec Request Global)) : Type 0 where
+  pub plan : Vec Request Global
+  pub given : answer ≡ Ok plan
+  pub added : new ≡ old ++ plan ∷ []
+
+-- so it is where the answers are as many as the plans
+adds-plan : (answer : Answer) (old new : List (Vec Request Global)) → map Ok new ≡ map Ok old ++ answer ∷ []
+    → AddsPlan answer old new
+adds-plan answer [] [] is = absurd (cc is)
+adds-plan answer [] (plan ∷ []) is = record { plan = plan; given = cc is; added = refl }
+adds-plan answer [] (plan ∷ other ∷ new) is = absurd (cc is)
+adds-plan answer (plan ∷ old) [] is = absurd (cc is)
+adds-plan answer (plan ∷ old) (first ∷ new) is =
+    let same : first ≡ plan = cc is in
+    let rest : map Ok new ≡ map Ok old ++ answer ∷ [] = cc is in
+    let more = adds-plan answer old new rest in
+    record { plan = more.plan; given = more.given; added = (λ i. same i ∷ more.added i) }
+
+pub added-plan : (answer : Answer) (plan : Vec Request Global) (old new : List (Vec Request Global)) → answer ≡ Ok plan
+    → new ≡ old ++ plan ∷ [] → map Ok new ≡ map Ok old ++ answer ∷ []
+added-plan answer plan old new given added =
+    ap (λ (plans : List (Vec Request Global)). map Ok plans) added
+    ∙ (map-append Ok old (plan ∷ []) ∙ ap (λ (a : Answer). map Ok old ++ a ∷ []) (sym given))
+
 -- the plan of the next file was added
 pub GivesPlans-next : {R : Type 0} (source_of : R → Option (List ℕ)) (pages : List Page) (done : List R) (reader : R)
     (answer : Answer) (old new : List (Vec Request Global))
     → GivesPlans pages (map source_of done) (map requests_of old)
     → Reads source_of pages reader answer
-    → AddsPlan answer old new
+    → map Ok new ≡ map Ok old ++ answer ∷ []
     → GivesPlans pages (map source_of (done ++ reader ∷ [])) (map requests_of new)
-GivesPlans-next source_of pages done reader answer old new given reads adds =
+GivesPlans-next source_of pages done reader answer old new given reads added =
+    let adds : AddsPlan answer old new = adds-plan answer old new added in
     let plan : GivesPlan pages (source_of reader) adds.plan.items =
     subst (Reads source_of pages reader) adds.given reads in
     rw (adds.added, map-append source_of done (reader ∷ []), map-append requests_of old (adds.plan ∷ []))
@@ -90,14 +116,9 @@ RefusesPlans-next source_of pages readers done reader answer plans fault front t
     (slice_get_read readers (length readers) (length done) reader refl there is) in
     let before : take (length done) (map source_of readers) ≡ map source_of done =
     take-map source_of (length done) readers ∙ ap (map source_of) front in
-    subst (RefusesPlans pages (map source_of readers)) (sym stops.named) (
-      length done,
-      ap (λ n. min n 4294967295) size,
-      record {
-        plans = map requests_of plans;
-        before = rw before given;
-        refused = rw at (refused_by source_of pages reader answer stops.why reads stops.stood);
-      },
+    subst (RefusesPlans pages (map source_of readers)) (sym (stops.named ∙ ap (λ n. driver.Requests n stops.why) size)) (
+      (map requests_of plans, rw before given),
+      rw at (refused_by source_of pages reader answer stops.why reads stops.stood),
     )
 
 -- ---- files that are read at once
@@ -140,7 +161,7 @@ pub RefusesPlans-memory : {R : Type 0} (source_of : R → Option (List ℕ)) (pa
     → RefusesPlans pages (map source_of readers) (driver.Requests 0 Memory)
 RefusesPlans-memory source_of pages [] some = absurd (let no : 0 < 0 = some in omega (arith, no))
 RefusesPlans-memory source_of pages (reader ∷ readers) some =
-    (0, refl, record { plans = []; before = tt; refused = λ rows there. tt })
+    (([], tt), λ rows there. tt)
 
 -- the first that gave none is refused
 pub RefusesPlans-in_parallel : {R : Type 0} (source_of : R → Option (List ℕ)) (pages : List Page) (readers : List R)
@@ -168,11 +189,8 @@ RefusesPlans-in_parallel source_of pages readers answers fault reads first =
           slice_get-map source_of readers first.place ∙ ap (λ o. option_map source_of o) at in
           let refused : RefusesPlan (source_of reader) stops.why =
           refused_by source_of pages reader answer stops.why reads_it stops.stood in
-          subst (RefusesPlans pages sources) (sym stops.named) (
-            first.place,
-            refl,
-            record { plans = map requests_of first.plans; before = before; refused = rw source refused },
-          )
+          subst (RefusesPlans pages sources) (sym stops.named)
+          ((map requests_of first.plans, before), rw source refused)
 
       by_answer : (o : Option Answer) → IsSomeAnd o (λ answer. Stops answer first.place fault)
           → MatchOption o (Unit {0})

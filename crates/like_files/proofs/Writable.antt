@@ -116,22 +116,16 @@ module _ (workload : Workload) (planned : All (IsPlan workload.pages) workload.p
   -- a right reply can be shown
   reply_shows : (s : Store) (a : Ask) (given : Reply) → HasPages s → ((why : Verdict) → a ≡ refuse why → why ≢ Accepted)
       → uncounted (reply s a) ≡ uncounted given → IsShowable workload.pages given
-  reply_shows s a Liked has why is = record { there = tt; answer = tt }
+  reply_shows s a Liked has why is = tt
   reply_shows s (like user page) (Seen last count) has why is = absurd (cc is)
-  reply_shows s (look user page) (Seen last count) has why is = record {
-    there =
-        let same : s.last user ≡ last = cc is in
-        subst (λ (o : Option ℕ). ForSome o (λ p. p < length workload.pages)) same (has user);
-    answer = tt;
-  }
+  reply_shows s (look user page) (Seen last count) has why is =
+      let same : s.last user ≡ last = cc is in
+      subst (λ (o : Option ℕ). ForSome o (λ p. p < length workload.pages)) same (has user)
   reply_shows s (refuse reason) (Seen last count) has why is = absurd (cc is)
   reply_shows s (like user page) (Refused given) has why is = absurd (cc is)
   reply_shows s (look user page) (Refused given) has why is = absurd (cc is)
-  reply_shows s (refuse reason) (Refused given) has why is = record {
-    there =
-        tt;
-    answer = let same : reason ≡ given = cc is in subst (λ w. w ≢ Accepted) same (why reason refl);
-  }
+  reply_shows s (refuse reason) (Refused given) has why is =
+      let same : reason ≡ given = cc is in subst (λ w. w ≢ Accepted) same (why reason refl)
 
   entry_shows : (before : List Ran) (e : Ran) → IsRightAnswer workload before e → IsShowable workload.pages e.reply
   entry_shows before e right = by_request (request_at workload e.submitter e.number) right where

@@ -1,5 +1,5 @@
 -- Which file the fault of a failed read names, and how request files are read.
-use Rattle.std.specs.Prelude.{◌≡◌, ◌-◌, ◌^◌, ℕ, List, map, min, slice_get, Option, IsSomeAnd, Result, IfErr, Vec, ⊤}
+use Rattle.std.specs.Prelude.{◌≡◌, ℕ, List, map, slice_get, Option, IsSomeAnd, Result, IfErr, MatchResult, Vec, ⊤}
 use Rattle.std.specs.declared.alloc.Global.{Global}
 use Rattle.like_records.specs.Reading.{ReadFailed}
 use Rattle.like_requests.specs.Pages.{Page}
@@ -7,30 +7,23 @@ use Rattle.like_requests.specs.declared.pages_file.PagesFault.TheVariants as pag
 use Rattle.like_requests.specs.declared.request.Request.{Request}
 use Rattle.like_requests.specs.declared.requests_file.RequestsFault.TheVariants as requests_fault
 use Rattle.like_requests.specs.declared.script_file.ScriptFault.TheVariants as script_fault
-use Rattle.like_files.specs.Inputs.{ReadsPlans}
+use Rattle.like_files.specs.Inputs.{GivesPlans, RefusesPlans}
 use Rattle.like_files.specs.declared.fault.DriverFault.{DriverFault}
 use Rattle.like_files.specs.declared.fault.DriverFault.TheVariants.{Pages, Requests, Script}
-
--- a read of this submitter's request file failed; a submitter's number is at most 2 ^ 32 - 1
-abbrev pub FailedAt : {R : Type 0} → List R → ℕ → Type 0
-FailedAt requests submitter =
-    (place : ℕ) × (submitter ≡ min place (2 ^ 32 - 1))
-    × IsSomeAnd (slice_get requests place) (λ reader. ReadFailed reader)
-
--- where the fault is a failed read of a request file, a read of the file that it names failed
-abbrev pub TellsPlanRead : {R : Type 0} → List R → DriverFault → Type 0
-TellsPlanRead requests (Requests submitter fault) = fault ≡ requests_fault.Read → FailedAt requests submitter
-TellsPlanRead requests fault = ⊤
 
 -- if the fault says that a read of a file failed, one failed of the file that it names
 abbrev pub TellsRead : {R : Type 0} → R → List R → Option R → DriverFault → Type 0
 TellsRead pages requests script (Pages fault) = fault ≡ pages_fault.Read → ReadFailed pages
+TellsRead pages requests script (Requests submitter fault) =
+    fault ≡ requests_fault.Read → IsSomeAnd (slice_get requests submitter) (λ reader. ReadFailed reader)
 TellsRead pages requests script (Script fault) =
     fault ≡ script_fault.Read → IsSomeAnd script (λ reader. ReadFailed reader)
-TellsRead pages requests script fault = TellsPlanRead requests fault
+TellsRead pages requests script fault = ⊤
 
 -- the answer of a reading of request files: their plans, or why they give none; and if a read failed, the fault tells whose
 pub record ReadsRequests {R : Type 0} (left : R → Option (List ℕ)) (pages : List Page) (readers : List R)
     (answer : Result (Vec (Vec Request Global) Global) DriverFault) : Type 0 where
-  pub plans : ReadsPlans pages (map left readers) answer
-  pub read : IfErr answer (TellsPlanRead readers)
+  pub plans :
+      MatchResult answer (λ plans. GivesPlans pages (map left readers) (map (λ plan. plan.items) plans.items))
+      (RefusesPlans pages (map left readers))
+  pub read : (file : R) (script : Option R) → IfErr answer (TellsRead file readers script)

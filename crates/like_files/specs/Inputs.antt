@@ -1,6 +1,5 @@
 -- What the files of a run or a replay give, as far as their bytes are known.
-use Rattle.std.specs.Prelude.{◌≡◌, ◌-◌, ◌^◌, ℕ, List, [], map, min, take, slice_get, Option, Some, None, IsSomeAnd, option_map, Result, MatchResult, Vec}
-use Rattle.std.specs.declared.alloc.Global.{Global}
+use Rattle.std.specs.Prelude.{◌≡◌, ℕ, List, [], map, take, slice_get, Option, Some, None, IsSomeAnd, option_map}
 use Rattle.std.specs.Io.KnownBytes.{Appends}
 use Rattle.std.specs.List.{AllZip}
 use Rattle.like_records.specs.Reading.{records_of}
@@ -8,7 +7,6 @@ use Rattle.like_requests.specs.Pages.{Page}
 use Rattle.like_requests.specs.PagesFile.{IsPagesFault, IsPagesFile}
 use Rattle.like_requests.specs.RequestsFile.{IsRequestsFault, IsRequestsFile}
 use Rattle.like_records.specs.Rows.{Record}
-use Rattle.like_requests.specs.declared.pages_file.PagesFault.{PagesFault}
 use Rattle.like_requests.specs.declared.request.Request.{Request}
 use Rattle.like_requests.specs.declared.requests_file.RequestsFault.{RequestsFault}
 use Rattle.like_requests.specs.declared.setup.Setup.{Setup}
@@ -33,17 +31,13 @@ pub record Inputs : Type 0 where
   pub requests : List (Option (List ℕ))
   pub script : Option (Option (List ℕ))
 
--- the inputs of these readers, by what each has left to give
-abbrev pub inputs_of : {R : Type 0} → (R → Option (List ℕ)) → R → List R → Option R → Inputs
-inputs_of left pages requests script = record {
-  pages = left pages;
-  requests = map left requests;
-  script = option_map left script;
-}
-
 -- what the readers of opened files have left to give
 abbrev pub inputs_in : {R : Type 0} → (R → Option (List ℕ)) → Opened R → Inputs
-inputs_in left files = inputs_of left files.pages files.requests.items files.script
+inputs_in left files = record {
+  pages = left files.pages;
+  requests = map left files.requests.items;
+  script = option_map left files.script;
+}
 
 -- the settings that options ask for with these pages
 abbrev pub setup_of : Options → List Page → Setup
@@ -63,14 +57,6 @@ extent_of o = record { totals = o.totals; places = o.places }
 -- a fact of the records of a file, where its bytes are known
 abbrev pub OfRecords : Option (List ℕ) → (List Record → Type 0) → Type 0
 OfRecords source P = (rows : List Record) → option_map records_of source ≡ Some rows → P rows
-
--- a pages file gives these pages
-abbrev pub GivesPages : Option (List ℕ) → List Page → Type 0
-GivesPages source pages = OfRecords source (λ rows. IsPagesFile rows pages)
-
--- a pages file is refused with this fault
-abbrev pub RefusesPages : Option (List ℕ) → PagesFault → Type 0
-RefusesPages source fault = OfRecords source (λ rows. IsPagesFault rows fault)
 
 -- a request file gives this plan
 abbrev pub GivesPlan : List Page → Option (List ℕ) → List Request → Type 0
@@ -94,42 +80,25 @@ RefusesScript (Some source) fault = OfRecords source (λ rows. IsScriptFault row
 abbrev pub GivesPlans : List Page → List (Option (List ℕ)) → List (List Request) → Type 0
 GivesPlans pages sources plans = AllZip (GivesPlan pages) sources plans
 
--- the request file at this place is the first that is refused
-pub record IsFirstRefused (pages : List Page) (sources : List (Option (List ℕ))) (place : ℕ)
-    (fault : RequestsFault) : Type 0 where
-  pub plans : List (List Request)
-  pub before : GivesPlans pages (take place sources) plans
-  pub refused : IsSomeAnd (slice_get sources place) (λ source. RefusesPlan source fault)
-
--- why the request files give no plans: the first that is refused; its number is at most 2 ^ 32 - 1
+-- why the request files give no plans: the first that is refused
 abbrev pub RefusesPlans : List Page → List (Option (List ℕ)) → DriverFault → Type 0
 RefusesPlans pages sources (driver.Requests submitter fault) =
-    (place : ℕ) × (submitter ≡ min place (2 ^ 32 - 1)) × IsFirstRefused pages sources place fault
+    ((plans : List (List Request)) × GivesPlans pages (take submitter sources) plans)
+    × IsSomeAnd (slice_get sources submitter) (λ source. RefusesPlan source fault)
 RefusesPlans pages sources fault = ⊥
-
--- the answer of a reading of the request files: their plans, or why they give none
-abbrev pub ReadsPlans :
-    List Page → List (Option (List ℕ)) → Result (Vec (Vec Request Global) Global) DriverFault → Type 0
-ReadsPlans pages sources answer =
-    MatchResult answer (λ plans. GivesPlans pages sources (map (λ plan. plan.items) plans.items))
-    (RefusesPlans pages sources)
-
--- a pages file and request files give these values
-pub record GivesLists (file : Option (List ℕ)) (files : List (Option (List ℕ))) (pages : List Page)
-    (plans : List (List Request)) : Type 0 where
-  pub pages_given : GivesPages file pages
-  pub plans_given : GivesPlans pages files plans
 
 -- why a pages file and request files give no values: the first fault of the pages file, or else of the request files
 abbrev pub RefusesLists : Option (List ℕ) → List (Option (List ℕ)) → DriverFault → Type 0
-RefusesLists file files (driver.Pages fault) = RefusesPages file fault
-RefusesLists file files fault = (pages : List Page) × GivesPages file pages × RefusesPlans pages files fault
+RefusesLists file files (driver.Pages fault) = OfRecords file (λ rows. IsPagesFault rows fault)
+RefusesLists file files fault =
+    (pages : List Page) × OfRecords file (λ rows. IsPagesFile rows pages) × RefusesPlans pages files fault
 
 -- this holds of the settings that options ask for with the pages of the files, and of their plans
 pub record OfFiles (options : Options) (inputs : Inputs) (Holds : Setup → List (List Request) → Type 0) : Type 0 where
   pub pages : List Page
   pub plans : List (List Request)
-  pub given : GivesLists inputs.pages inputs.requests pages plans
+  pub pages_given : OfRecords inputs.pages (λ rows. IsPagesFile rows pages)
+  pub plans_given : GivesPlans pages inputs.requests plans
   pub holds : Holds (setup_of options pages) plans
 
 -- the text of a right report was written, with right places if they are asked for, else with none; its notice is its

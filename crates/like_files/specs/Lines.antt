@@ -1,5 +1,5 @@
--- The lines of faults.
-use Rattle.std.specs.Prelude.{ℕ, List, [], ◌++◌, Option, None, Some, codes, slice_get, string_bytes}
+-- The statuses and the lines of faults.
+use Rattle.std.specs.Prelude.{ℕ, List, [], ◌++◌, Option, None, Some, MatchOption, codes, slice_get, string_bytes}
 use Rattle.std.specs.Io.KnownBytes.{Appends}
 use Rattle.std.specs.Option.{option_map_or}
 use Rattle.like_requests.specs.declared.pages_file.PagesFault.TheVariants as pages
@@ -15,21 +15,22 @@ use Rattle.like_files.specs.declared.fault.DriverFault.TheVariants.{Pages, Reque
 abbrev pub write_line : List ℕ
 write_line = codes "likes: standard output: write failed\n"
 
--- the line of a fault that names no file
-abbrev pub own_line : DriverFault → Option (List ℕ)
-own_line (Pages pages.Memory) = Some words.memory_line
-own_line (Pages fault) = None
-own_line (Requests submitter requests.Memory) = Some words.memory_line
-own_line (Requests submitter fault) = None
-own_line (Script script.Memory) = Some words.memory_line
-own_line (Script fault) = None
-own_line (Settings (settings.Script at)) = None
-own_line (Settings settings.Submitters) = Some (codes "likes: between 1 and 64 request files\n")
-own_line (Settings fault) = Some (codes "likes: settings\n")
-own_line Start = Some (codes "likes: a thread could not be started\n")
-own_line Unfinished = Some (codes "likes: not finished after 1000000 rounds\n")
-own_line Write = Some write_line
-own_line Memory = Some words.memory_line
+-- the status of a fault: 2 of the settings, 3 of a file or the output, 4 of memory or a start, 5 of a replay that does not
+-- end; and its line, if that names no file
+abbrev pub told : DriverFault → ℕ × Option (List ℕ)
+told (Pages pages.Memory) = (4, Some words.memory_line)
+told (Pages fault) = (3, None)
+told (Requests submitter requests.Memory) = (4, Some words.memory_line)
+told (Requests submitter fault) = (3, None)
+told (Script script.Memory) = (4, Some words.memory_line)
+told (Script fault) = (3, None)
+told (Settings (settings.Script at)) = (3, None)
+told (Settings settings.Submitters) = (2, Some (codes "likes: between 1 and 64 request files\n"))
+told (Settings fault) = (2, Some (codes "likes: settings\n"))
+told Start = (4, Some (codes "likes: a thread could not be started\n"))
+told Unfinished = (5, Some (codes "likes: not finished after 1000000 rounds\n"))
+told Write = (3, Some write_line)
+told Memory = (4, Some words.memory_line)
 
 -- the name of the file at fault: empty where the options have none
 abbrev pub file_of : Options → DriverFault → List ℕ
@@ -39,15 +40,10 @@ file_of options (Script fault) = option_map_or string_bytes options.script []
 file_of options (Settings (settings.Script at)) = option_map_or string_bytes options.script []
 file_of options fault = []
 
--- what a line says of a file with this name
-abbrev pub file_line : List ℕ → List ℕ → List ℕ
-file_line name text = codes "likes: " ++ (name ++ (codes ": " ++ (text ++ codes "\n")))
-
--- a fault's own line was written, or one that names the file at fault
-abbrev pub ShowsOwnOr : Option (List ℕ) → List ℕ → Option (List ℕ) → Option (List ℕ) → Type 0
-ShowsOwnOr (Some line) name old new = Appends old new line
-ShowsOwnOr None name old new = (text : List ℕ) × Appends old new (file_line name text)
-
--- the line of a fault was written
+-- the line of a fault was written: its own, or one that names the file at fault
 abbrev pub ShowsLine : Options → DriverFault → Option (List ℕ) → Option (List ℕ) → Type 0
-ShowsLine options fault old new = ShowsOwnOr (own_line fault) (file_of options fault) old new
+ShowsLine options fault old new =
+    MatchOption (told fault).1
+    ((text : List ℕ) × Appends old new
+    (codes "likes: " ++ (file_of options fault ++ (codes ": " ++ (text ++ codes "\n")))))
+    (Appends old new)

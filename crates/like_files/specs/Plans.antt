@@ -1,5 +1,5 @@
 -- What the answers of the request files' readers make, one after the other.
-use Rattle.std.specs.Prelude.{◌≡◌, ◌-◌, ◌^◌, ◌⊎◌, ◌++◌, ℕ, List, [], ◌∷◌, map, min, take, slice_get, IsSomeAnd, Result, Ok, Err, Vec}
+use Rattle.std.specs.Prelude.{◌≡◌, ◌⊎◌, ℕ, List, map, take, slice_get, IsSomeAnd, Result, Ok, Err, Vec}
 use Rattle.std.specs.declared.alloc.Global.{Global}
 use Rattle.like_requests.specs.declared.request.Request.{Request}
 use Rattle.like_requests.specs.declared.requests_file.RequestsFault.{RequestsFault}
@@ -11,17 +11,10 @@ use Rattle.like_files.specs.declared.fault.DriverFault.TheVariants.{Requests}
 abbrev pub Answer : Type 0
 Answer = Result (Vec Request Global) RequestsFault
 
--- the answer is a plan, which was added
-pub record AddsPlan (answer : Answer) (old new : List (Vec Request Global)) : Type 0 where
-  pub plan : Vec Request Global
-  pub given : answer ≡ Ok plan
-  pub added : new ≡ old ++ plan ∷ []
-
--- the answer at this place adds no plan: it is a fault, or memory was refused; a submitter's number is at most 2 ^ 32 -
--- 1
+-- the answer at this place adds no plan: it is a fault, or memory was refused
 pub record Stops (answer : Answer) (place : ℕ) (fault : DriverFault) : Type 0 where
   pub why : RequestsFault
-  pub named : fault ≡ Requests (min place (2 ^ 32 - 1)) why
+  pub named : fault ≡ Requests place why
   pub stood : (answer ≡ Err why) ⊎ (why ≡ Memory)
 
 -- the first answer that adds no plan

@@ -1,7 +1,7 @@
 -- The name that means standard input, and options that give it to more than one file.
-use Rattle.std.specs.Prelude.{ℕ, Bool, false, if◌then◌else◌, List, [], ◌∷◌, ◌++◌, map, Option, None, Some, String, codes, string_bytes}
-use Rattle.std.specs.declared.alloc.Global.{Global}
+use Rattle.std.specs.Prelude.{ℕ, Bool, false, if◌then◌else◌, List, [], ◌∷◌, ◌++◌, map, option_map, codes, string_bytes}
 use Rattle.std.specs.List.{list_any}
+use Rattle.std.specs.Option.{option_to_list}
 use Rattle.std.specs.Str.{bytes_eq}
 use Rattle.like_command.specs.declared.options.Options.{Options}
 
@@ -14,12 +14,8 @@ abbrev pub names_twice : List (List ℕ) → Bool
 names_twice [] = false
 names_twice (name ∷ rest) = if is_input name then list_any is_input rest else names_twice rest
 
--- the name of the script, if there is one
-abbrev pub script_names : Option (String Global) → List (List ℕ)
-script_names None = []
-script_names (Some name) = string_bytes name ∷ []
-
 -- the names of all files, in the order in which they are opened
 abbrev pub names_of : Options → List (List ℕ)
 names_of options =
-    string_bytes options.pages ∷ map string_bytes options.requests.items ++ script_names options.script
+    string_bytes options.pages ∷ map string_bytes options.requests.items
+    ++ option_to_list (option_map string_bytes options.script)

@@ -1,6 +1,5 @@
-ghost use Rattle.std.specs.Prelude.{◌≡◌, ◌-◌, ◌^◌, min};
-ghost use Rattle.like_files.specs.Faults.{status_of};
-ghost use Rattle.like_files.specs.declared.fault.DriverFault.TheVariants as driver;
+ghost use Rattle.std.specs.Prelude.{◌≡◌};
+ghost use Rattle.like_files.specs.Lines.{told};
 
 use like_replies::WriteFault;
 use like_requests::{PagesFault, RequestsFault, SettingsFault};
@@ -14,7 +13,7 @@ pub enum DriverFault {
     Pages(PagesFault),
     #[error("{fault}")]
     Requests {
-        submitter: u32,
+        submitter: usize,
         fault: RequestsFault,
     },
     #[error("{0}")]
@@ -101,36 +100,10 @@ impl From<WriteFault> for DriverFault {
 }
 
 impl DriverFault {
-    /// The fault of the request file at a place. A submitter's number is at most 2^32 - 1.
-    pub(crate) fn of_requests(place: usize, fault: RequestsFault) -> DriverFault
-        ensures { result ≡ driver.Requests (min place (2 ^ 32 - 1)) fault }
-    {
-        DriverFault::Requests {
-            submitter: place.min(u32::MAX as usize) as u32,
-            fault,
-        }
-    }
-
     /// The exit status.
     pub fn status(&self) -> u8
-        ensures { result ≡ status_of self.now }
+        ensures { result ≡ (told self.now).0 }
     {
-        match self {
-            DriverFault::Pages(PagesFault::Memory)
-            | DriverFault::Requests {
-                fault: RequestsFault::Memory,
-                ..
-            }
-            | DriverFault::Script(ScriptFault::Memory)
-            | DriverFault::Start
-            | DriverFault::Memory => 4,
-            DriverFault::Settings(SettingsFault::Script { .. })
-            | DriverFault::Pages(_)
-            | DriverFault::Requests { .. }
-            | DriverFault::Script(_)
-            | DriverFault::Write => 3,
-            DriverFault::Settings(_) => 2,
-            DriverFault::Unfinished => 5,
-        }
+        self.told().0
     }
 }

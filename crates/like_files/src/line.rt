@@ -1,6 +1,6 @@
-//! The line of a fault.
+//! The status and the line of a fault.
 ghost use Rattle.std.specs.Prelude.{◌≡◌, None, IsTrue, option_map};
-ghost use Rattle.like_files.specs.Lines.{ShowsLine, file_of, own_line};
+ghost use Rattle.like_files.specs.Lines.{ShowsLine, file_of, told};
 
 use crate::fault::DriverFault;
 use like_command::{OUT_OF_MEMORY, Options};
@@ -22,7 +22,7 @@ impl DriverFault {
         ensures { IsTrue result
             → ShowsLine options.now self.now (W.contents out.old) (W.contents out.new) }
     {
-        match self.own_line() {
+        match self.told().1 {
             Some(line) => out.write_all(line.as_bytes()).is_ok(),
             None => {
                 let (file, text) = (self.file(options), self.text());
@@ -32,9 +32,10 @@ impl DriverFault {
         }
     }
 
-    // The line of a fault that names no file.
-    fn own_line(&self) -> Option<&'static str>
-        ensures { option_map (λ line. line.now) result ≡ own_line self.now }
+    // The exit status, and the line of a fault that names no file.
+    pub(crate) fn told(&self) -> (u8, Option<&'static str>)
+        ensures status { result.0 ≡ (told self.now).0 }
+        ensures line { option_map (λ line. line.now) result.1 ≡ (told self.now).1 }
     {
         match self {
             DriverFault::Pages(PagesFault::Memory)
@@ -43,18 +44,18 @@ impl DriverFault {
                 ..
             }
             | DriverFault::Script(ScriptFault::Memory)
-            | DriverFault::Memory => Some(OUT_OF_MEMORY),
+            | DriverFault::Memory => (4, Some(OUT_OF_MEMORY)),
             DriverFault::Settings(SettingsFault::Submitters) => {
-                Some("likes: between 1 and 64 request files\n")
+                (2, Some("likes: between 1 and 64 request files\n"))
             }
             DriverFault::Settings(SettingsFault::Script { .. })
             | DriverFault::Pages(_)
             | DriverFault::Requests { .. }
-            | DriverFault::Script(_) => None,
-            DriverFault::Settings(_) => Some("likes: settings\n"),
-            DriverFault::Start => Some("likes: a thread could not be started\n"),
-            DriverFault::Unfinished => Some("likes: not finished after 1000000 rounds\n"),
-            DriverFault::Write => Some(WRITE_FAILED),
+            | DriverFault::Script(_) => (3, None),
+            DriverFault::Settings(_) => (2, Some("likes: settings\n")),
+            DriverFault::Start => (4, Some("likes: a thread could not be started\n")),
+            DriverFault::Unfinished => (5, Some("likes: not finished after 1000000 rounds\n")),
+            DriverFault::Write => (3, Some(WRITE_FAILED)),
         }
     }
 
@@ -65,7 +66,7 @@ impl DriverFault {
         match self {
             DriverFault::Pages(_) => options.pages.as_str(),
             DriverFault::Requests { submitter, .. } => {
-                match options.requests.get(*submitter as usize) {
+                match options.requests.get(*submitter) {
                     Some(name) => name.as_str(),
                     None => "",
                 }

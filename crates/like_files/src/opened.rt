@@ -1,6 +1,7 @@
-ghost use Rattle.std.specs.Prelude.{◌≡◌, [], MatchResult, length};
-ghost use Rattle.like_files.specs.Opened.{AreNamed, IsUnopened, IsUnopenedRequest, opened_as};
+ghost use Rattle.std.specs.Prelude.{◌≡◌, ℕ, MatchResult, length, map, string_bytes};
+ghost use Rattle.like_files.specs.Opened.{AreNamed, IsUnopened, StopsAt, opened_as, stopped_by};
 ghost use Rattle.like_files.specs.Tries.{Tries};
+ghost use Rattle.like_files.specs.declared.fault.DriverFault.TheVariants as driver;
 
 use crate::fault::DriverFault;
 use crate::opener::Opener;
@@ -31,17 +32,20 @@ pub fn open_files<O: Opener>(
         return Err(DriverFault::Pages(PagesFault::Read));
     };
     let requests = open_requests(opener, alloc, &options.requests)?;
-    let script = match &options.script {
-        None => None,
-        Some(name) => match opener.open(name.as_str()) {
-            Some(file) => Some(file),
-            None => return Err(DriverFault::Script(ScriptFault::Read)),
-        },
+    let Some(name) = &options.script else {
+        return Ok(Opened {
+            pages,
+            requests,
+            script: None,
+        });
+    };
+    let Some(script) = opener.open(name.as_str()) else {
+        return Err(DriverFault::Script(ScriptFault::Read));
     };
     Ok(Opened {
         pages,
         requests,
-        script,
+        script: Some(script),
     })
 }
 
@@ -51,18 +55,25 @@ fn open_requests<O: Opener>(
     alloc: Global,
     names: &[String],
 ) -> Result<Vec<O::Reader>, DriverFault>
-    ensures { MatchResult result
-        (λ readers. (length readers.items ≡ length names.now)
-        × Tries (O.tries opener.old) (O.tries opener.new) (opened_as names.now readers.items))
-        (IsUnopenedRequest (O.tries opener.old) (O.tries opener.new) [] names.now) }
+    ensures { let texts = map string_bytes names.now in MatchResult result
+        (λ readers. (length readers.items ≡ length texts)
+        × Tries (O.tries opener.old) (O.tries opener.new) (opened_as texts readers.items))
+        (λ fault. (place : ℕ) × (last : _) × (fault ≡ driver.Requests place (stopped_by last))
+        × StopsAt (O.tries opener.old) (O.tries opener.new) texts place last) }
 {
     let mut opened = Vec::new(alloc);
     for (place, name) in names.iter().enumerate() {
         let Some(file) = opener.open(name.as_str()) else {
-            return Err(DriverFault::of_requests(place, RequestsFault::Read));
+            return Err(DriverFault::Requests {
+                submitter: place,
+                fault: RequestsFault::Read,
+            });
         };
         if opened.push(file).is_err() {
-            return Err(DriverFault::of_requests(place, RequestsFault::Memory));
+            return Err(DriverFault::Requests {
+                submitter: place,
+                fault: RequestsFault::Memory,
+            });
         }
     }
     Ok(opened)

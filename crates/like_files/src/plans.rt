@@ -1,8 +1,8 @@
-ghost use Rattle.std.specs.Prelude.{◌≡◌, ◌-◌, ◌<◌, IfErr, MatchResult, Ok, OnOk, length, map, min};
+ghost use Rattle.std.specs.Prelude.{◌≡◌, [], ◌∷◌, ◌++◌, IfErr, MatchResult, Ok, OnOk, length, map};
 ghost use Rattle.like_records.specs.Reading.{ReadFailed};
 ghost use Rattle.like_files.specs.FailedReads.{ReadsRequests};
 ghost use Rattle.like_files.specs.Inputs.{GivesPlan, RefusesPlan};
-ghost use Rattle.like_files.specs.Plans.{AddsPlan, IsFirstStop, Stops};
+ghost use Rattle.like_files.specs.Plans.{IsFirstStop, Stops};
 
 use crate::fault::DriverFault;
 use like_requests::{MAX_SUBMITTERS, Pages, Request, RequestsFault, read_requests};
@@ -49,7 +49,10 @@ pub fn read_plans_in_parallel<T: Threads + Sync, R: Read + Drop + Send>(
     { read_requests(alloc, reader, pages) };
     match thread::map_vec(rt, requests, &read) {
         Ok(answers) => gather(alloc, answers),
-        Err(_) => Err(DriverFault::of_requests(0, RequestsFault::Memory)),
+        Err(_) => Err(DriverFault::Requests {
+            submitter: 0,
+            fault: RequestsFault::Memory,
+        }),
     }
 }
 
@@ -74,16 +77,17 @@ fn add_plan(
     plans: &mut Vec<Vec<Request>>,
     answer: Result<Vec<Request>, RequestsFault>,
 ) -> Result<(), DriverFault>
-    ensures added { OnOk result (AddsPlan answer plans.old.items plans.new.items) }
+    ensures added { OnOk result (map Ok plans.new.items ≡ map Ok plans.old.items ++ answer ∷ []) }
     ensures stopped { IfErr result (Stops answer (length plans.old.items)) }
 {
-    let place = plans.len();
+    let submitter = plans.len();
     let plan = match answer {
         Ok(plan) => plan,
-        Err(fault) => return Err(DriverFault::of_requests(place, fault)),
+        Err(fault) => return Err(DriverFault::Requests { submitter, fault }),
     };
     if plans.push(plan).is_err() {
-        return Err(DriverFault::of_requests(place, RequestsFault::Memory));
+        let fault = RequestsFault::Memory;
+        return Err(DriverFault::Requests { submitter, fault });
     }
     Ok(())
 }

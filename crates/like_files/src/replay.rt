@@ -2,8 +2,9 @@ ghost use Rattle.std.specs.Prelude.{◌≡◌, ◌≤◌, IfErr, IfOk, IsSomeAnd
 ghost use Rattle.like_promises.specs.Workload.{lists_of};
 ghost use Rattle.like_records.specs.Reading.{ReadFailed};
 ghost use Rattle.like_limits.specs.Limits.{max_entries};
+ghost use Rattle.like_requests.specs.PagesFile.{IsPagesFile};
 ghost use Rattle.like_files.specs.FailedReads.{TellsRead};
-ghost use Rattle.like_files.specs.Inputs.{BeginsReport, BeginsReportOf, GivesLists, GivesScript, Inputs, RefusesScript, inputs_in, inputs_of};
+ghost use Rattle.like_files.specs.Inputs.{BeginsReport, BeginsReportOf, GivesPlans, GivesScript, Inputs, OfRecords, RefusesScript, inputs_in};
 ghost use Rattle.like_files.specs.Outcome.{IsOutcome, LeavesFront, LeavesOutput};
 ghost use Rattle.like_files.specs.Replay.{HasReplayed, HasReplayedLists, IsReplayFilesFault, IsReplayListsFault};
 ghost use Rattle.like_replies.specs.declared.notice.Notice.{Notice};
@@ -34,10 +35,10 @@ pub fn replay_files<R: Read + Drop, W: Output>(
 ) -> Result<(), DriverFault>
     requires request_names { length requests.items ≡ length options.now.requests.items }
     requires script_name { is_some script ≡ is_some options.now.script }
-    ensures replayed { let inputs = inputs_of R.remaining pages requests.items script in
+    ensures replayed { let inputs = inputs_in R.remaining (record { pages = pages; requests = requests; script = script }) in
         IsOutcome (λ old new _. (notice : Option Notice) × HasReplayed options.now inputs old new notice)
         (IsReplayFilesFault options.now inputs) W.held out.old out.new result }
-    ensures begun { let inputs = inputs_of R.remaining pages requests.items script in
+    ensures begun { let inputs = inputs_in R.remaining (record { pages = pages; requests = requests; script = script }) in
         OnErr result (LeavesFront (BeginsReportOf options.now inputs) W.held out.old out.new) }
     ensures output { LeavesOutput W.is_flushed W.has_failed out.old out.new result }
     ensures read { IfErr result (TellsRead pages requests.items script) }
@@ -88,11 +89,13 @@ fn replay_read<R: Read + Drop, W: Output, P: Progress>(
     out: &mut W,
     progress: &mut P,
 ) -> Result<Option<Notice>, DriverFault>
-    ensures replayed { (inputs : Inputs) → GivesLists inputs.pages inputs.requests pages (lists_of plans.items)
+    ensures replayed { (inputs : Inputs) → OfRecords inputs.pages (λ rows. IsPagesFile rows pages)
+        → GivesPlans pages inputs.requests (lists_of plans.items)
         → inputs.script ≡ option_map R.remaining script
         → IsOutcome (HasReplayed options.now inputs) (IsReplayFilesFault options.now inputs)
         W.held out.old out.new result }
-    ensures begun { (inputs : Inputs) → GivesLists inputs.pages inputs.requests pages (lists_of plans.items)
+    ensures begun { (inputs : Inputs) → OfRecords inputs.pages (λ rows. IsPagesFile rows pages)
+        → GivesPlans pages inputs.requests (lists_of plans.items)
         → OnErr result (LeavesFront (BeginsReportOf options.now inputs) W.held out.old out.new) }
     ensures output { LeavesOutput W.is_flushed W.has_failed out.old out.new result }
     ensures read { (file : R) (files : List R) → IfErr result (TellsRead file files script) }

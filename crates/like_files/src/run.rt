@@ -1,7 +1,7 @@
 ghost use Rattle.std.specs.Prelude.{◌≡◌, IfErr, None, OnErr, Option, length};
 ghost use Rattle.like_promises.specs.Workload.{lists_of};
 ghost use Rattle.like_files.specs.FailedReads.{TellsRead};
-ghost use Rattle.like_files.specs.Inputs.{BeginsReport, BeginsReportOf, inputs_in, inputs_of};
+ghost use Rattle.like_files.specs.Inputs.{BeginsReport, BeginsReportOf, inputs_in};
 ghost use Rattle.like_files.specs.Outcome.{IsOutcome, LeavesFront, LeavesOutput};
 ghost use Rattle.like_files.specs.Run.{HasRun, HasRunLists, IsRunFilesFault, IsRunListsFault};
 ghost use Rattle.like_replies.specs.declared.notice.Notice.{Notice};
@@ -34,10 +34,10 @@ pub fn run_files<T: Threads + Wait + Sync, R: Read + Drop + Send, W: Output>(
     out: &mut W,
 ) -> Result<(), DriverFault>
     requires { length requests.items ≡ length options.now.requests.items }
-    ensures run { let inputs = inputs_of R.remaining pages requests.items None in
+    ensures run { let inputs = inputs_in R.remaining (record { pages = pages; requests = requests; script = None }) in
         IsOutcome (λ old new _. (notice : Option Notice) × HasRun options.now inputs old new notice)
         (IsRunFilesFault options.now inputs) W.held out.old out.new result }
-    ensures begun { let inputs = inputs_of R.remaining pages requests.items None in
+    ensures begun { let inputs = inputs_in R.remaining (record { pages = pages; requests = requests; script = None }) in
         OnErr result (LeavesFront (BeginsReportOf options.now inputs) W.held out.old out.new) }
     ensures output { LeavesOutput W.is_flushed W.has_failed out.old out.new result }
     ensures read { IfErr result (TellsRead pages requests.items None) }
@@ -67,7 +67,7 @@ pub fn run_opened<T: Threads + Wait + Sync, R: Read + Drop + Send, W: Output, P:
     ensures begun { let inputs = inputs_in R.remaining files in
         OnErr result (LeavesFront (BeginsReportOf options.now inputs) W.held out.old out.new) }
     ensures output { LeavesOutput W.is_flushed W.has_failed out.old out.new result }
-    ensures read { IfErr result (TellsRead files.pages files.requests.items None) }
+    ensures read { IfErr result (TellsRead files.pages files.requests.items files.script) }
 {
     let pages = read_pages(alloc, files.pages)?;
     let plans = read_plans_in_parallel(rt, alloc, &pages, files.requests)?;

@@ -1,5 +1,5 @@
 -- Runs and replays of the files that options name.
-use Rattle.std.proofs.Common.{◌≡◌, ◌∙◌, ℕ, List, [], ◌∷◌, Option, None, Some, Result, Ok, Err, IfErr, map, option_map, refl, inl, inr, take}
+use Rattle.std.proofs.Common.{◌≡◌, ◌∙◌, ℕ, List, [], ◌∷◌, ◌++◌, Option, None, Some, Result, Ok, Err, IfErr, add-one, length, map, option_map, refl, string_bytes, sym, inl, inr, take}
 use Rattle.std.specs.Prelude.{IsSomeAnd, OnErr, is_some, slice_get}
 use Rattle.std.proofs.lemmas.List.{length-map, take-map}
 use Rattle.std.proofs.lemmas.Option.{none-some, slice_get-map}
@@ -19,8 +19,9 @@ use Rattle.like_files.specs.Tries.{Try}
 use Rattle.like_files.specs.declared.fault.DriverFault.{DriverFault}
 use Rattle.like_files.specs.declared.fault.DriverFault.TheVariants as driver
 use Rattle.like_files.specs.declared.opened.Opened.{Opened}
-use Rattle.like_program.specs.Program.{BeginsSome, OfSome}
-use Rattle.like_program.specs.Named.{BeginsNamed, HasReplayedNamed, HasRunNamed, IsReplayNamedFault, IsRunNamedFault, OfNamed}
+use Rattle.like_program.specs.Program.{OfSome}
+use Rattle.like_program.proofs.Serving.{BeginsSome}
+use Rattle.like_program.specs.Named.{IsNamedFault, OfNamed}
 
 -- a script tells something just if there is one
 tells_if : {R A : Type 0} (f : R → A) (reader : Option R) → is_some (option_map f reader) ≡ is_some reader
@@ -46,28 +47,41 @@ unknown-plan : {X : Type 0} (P : X → Type 0) (name : Option X) (why : Requests
 unknown-plan P None why there = absurd there
 unknown-plan P (Some name) why there = λ rows none. absurd (none-some rows none)
 
-unknown-script : {X : Type 0} (P : X → Type 0) (name : Option X) (why : ScriptFault)
-    → IsSomeAnd name P
+unknown-script : {X : Type 0} (name : Option X) (why : ScriptFault)
+    → ¬ (name ≡ None)
     → RefusesScript (option_map unknown name) why
-unknown-script P None why there = absurd there
-unknown-script P (Some name) why there = λ rows none. absurd (none-some rows none)
+unknown-script None why there = absurd (there refl)
+unknown-script (Some name) why there = λ rows none. absurd (none-some rows none)
+
+-- ---- where an opening stopped
+
+-- a file that stopped it is there
+there-mapped : {X Y : Type 0} (f : X → Y) (P : Y → Type 0) (o : Option X) → IsSomeAnd (option_map f o) P
+    → IsSomeAnd o (λ x. P (f x))
+there-mapped f P None h = absurd h
+there-mapped f P (Some x) h = h
+
+-- none is behind the last
+none_behind : {X : Type 0} (P : X → Type 0) (xs : List X) → ¬ IsSomeAnd (slice_get (xs ++ []) (length xs)) P
+none_behind P [] h = h
+none_behind P (x ∷ xs) h = none_behind P xs h
+
+-- a front of a report of named files was written
+abbrev pub BeginsNamed : {R : Type 0} → (R → Option (List ℕ)) → Option (List (Try R)) → Option (List (Try R)) → Options
+    → Option (List ℕ) → Option (List ℕ) → Type 0
+BeginsNamed left before after options old new =
+    OfNamed before after options (λ files. BeginsReportOf options (inputs_in left files) old new)
 
 module _ {R : Type 0} (left : R → Option (List ℕ)) (before after : Option (List (Try R))) (options : Options) where
   module _ (opened : Opened R) (named : AreNamed before after options opened) where
     -- what was opened was refused
-    pub run-refused : (r : Result (Option Notice) DriverFault)
-        → IfErr r (IsRunFilesFault options (inputs_in left opened))
-        → IfErr r (TellsRead opened.pages opened.requests.items None)
-        → IfErr r (IsRunNamedFault left before after options)
-    run-refused (Ok notice) refused told = tt
-    run-refused (Err fault) refused told = inr (record { opened = opened; named = named; holds = (refused, told) })
-
-    pub replay-refused : (r : Result (Option Notice) DriverFault)
-        → IfErr r (IsReplayFilesFault options (inputs_in left opened))
+    pub files-refused : (Refused : Opened R → DriverFault → Type 0) (r : Result (Option Notice) DriverFault)
+        → IfErr r (Refused opened)
         → IfErr r (TellsRead opened.pages opened.requests.items opened.script)
-        → IfErr r (IsReplayNamedFault left before after options)
-    replay-refused (Ok notice) refused told = tt
-    replay-refused (Err fault) refused told = inr (record { opened = opened; named = named; holds = (refused, told) })
+        → IfErr r (IsNamedFault before after options Refused)
+    files-refused Refused (Ok notice) refused told = tt
+    files-refused Refused (Err fault) refused told =
+        inr (record { opened = opened; named = named; holds = (refused, told) })
 
     -- what was begun of these files was begun of named files
     pub named-begun : {W A : Type 0} (held : W → Option (List ℕ)) (old new : W) (r : Result A DriverFault)
@@ -89,12 +103,12 @@ module _ {R : Type 0} (left : R → Option (List ℕ)) (before after : Option (L
   }
 
   pub some-run : (old new : Option (List ℕ)) (notice : Option Notice)
-      → HasRunNamed left before after options old new notice
+      → OfNamed before after options (λ files. HasRun options (inputs_in left files) old new notice)
       → OfSome options (λ inputs. HasRun options inputs old new notice)
   some-run old new notice files = some-files (λ inputs. HasRun options inputs old new notice) files
 
   pub some-replay : (old new : Option (List ℕ)) (notice : Option Notice)
-      → HasReplayedNamed left before after options old new notice
+      → OfNamed before after options (λ files. HasReplayed options (inputs_in left files) old new notice)
       → OfSome options (λ inputs. HasReplayed options inputs old new notice)
   some-replay old new notice files = some-files (λ inputs. HasReplayed options inputs old new notice) files
 
@@ -127,33 +141,41 @@ module _ {R : Type 0} (left : R → Option (List ℕ)) (before after : Option (L
       → IsUnopened before after options (driver.Requests submitter why)
       → RefusesLists unread.pages unread.requests (driver.Requests submitter why)
   request-unopened submitter why unopened =
-      let (place, named, first) = unopened.1 in
       let names = options.requests.items in
-      let plans = unknown-plans [] (take place names) in (
+      let plans = unknown-plans [] (take submitter names) in
+      let at = rw (add-one submitter, slice_get-map string_bytes names submitter) at unopened.2.tries in (
         [],
         (λ rows none. absurd (none-some rows none)),
         (
-          place,
-          named,
-          record {
-            plans = plans.0;
-            before = rw (take-map unknown place names) plans.1;
-            refused = rw (slice_get-map unknown names place) (unknown-plan _ (slice_get names place) why first.tries);
-          },
+          (plans.0, rw (take-map unknown submitter names) plans.1),
+          rw (slice_get-map unknown names submitter)
+              (unknown-plan _ (slice_get names submitter) why
+              (there-mapped string_bytes _ (slice_get names submitter) at)),
         ),
       )
+
+  -- options without a script name none that stops the opening
+  scripted : (why : ScriptFault) → IsUnopened before after options (driver.Script why) → ¬ (options.script ≡ None)
+  scripted why unopened none =
+      let requested = map string_bytes options.requests.items in
+      let at = rw (
+        none,
+        add-one (length options.requests.items),
+        sym (length-map options.requests.items string_bytes),
+      ) at unopened.1.tries in
+      none_behind _ requested at
 
   run-unopened : (fault : DriverFault) → options.script ≡ None
       → IsUnopened before after options fault
       → IsRunFilesFault options unread fault
   run-unopened (driver.Pages why) none unopened = inl (λ rows none. absurd (none-some rows none))
   run-unopened (driver.Requests submitter why) none unopened = inl (request-unopened submitter why unopened)
-  run-unopened (driver.Script why) none unopened = let tries = rw none at unopened.1.tries in absurd tries
-  run-unopened (driver.Settings why) none unopened = absurd unopened.1
-  run-unopened driver.Start none unopened = absurd unopened.1
-  run-unopened driver.Unfinished none unopened = absurd unopened.1
-  run-unopened driver.Write none unopened = absurd unopened.1
-  run-unopened driver.Memory none unopened = absurd unopened.1
+  run-unopened (driver.Script why) none unopened = absurd (scripted why unopened none)
+  run-unopened (driver.Settings why) none unopened = absurd unopened
+  run-unopened driver.Start none unopened = absurd unopened
+  run-unopened driver.Unfinished none unopened = absurd unopened
+  run-unopened driver.Write none unopened = absurd unopened
+  run-unopened driver.Memory none unopened = absurd unopened
 
   replay-unopened : (fault : DriverFault)
       → IsUnopened before after options fault
@@ -165,17 +187,18 @@ module _ {R : Type 0} (left : R → Option (List ℕ)) (before after : Option (L
       inr (record {
         pages = [];
         plans = plans.0;
-        given = record { pages_given = λ rows none. absurd (none-some rows none); plans_given = plans.1 };
-        holds = unknown-script _ options.script why unopened.1.tries;
+        pages_given = λ rows none. absurd (none-some rows none);
+        plans_given = plans.1;
+        holds = unknown-script options.script why (scripted why unopened);
       })
-  replay-unopened (driver.Settings why) unopened = absurd unopened.1
-  replay-unopened driver.Start unopened = absurd unopened.1
-  replay-unopened driver.Unfinished unopened = absurd unopened.1
-  replay-unopened driver.Write unopened = absurd unopened.1
-  replay-unopened driver.Memory unopened = absurd unopened.1
+  replay-unopened (driver.Settings why) unopened = absurd unopened
+  replay-unopened driver.Start unopened = absurd unopened
+  replay-unopened driver.Unfinished unopened = absurd unopened
+  replay-unopened driver.Write unopened = absurd unopened
+  replay-unopened driver.Memory unopened = absurd unopened
 
   pub some-run-fault : (fault : DriverFault) → options.script ≡ None
-      → IsRunNamedFault left before after options fault
+      → IsNamedFault before after options (λ files. IsRunFilesFault options (inputs_in left files)) fault
       → OfSome options (λ inputs. IsRunFilesFault options inputs fault)
   some-run-fault fault none (inl unopened) =
       unread-files (λ inputs. IsRunFilesFault options inputs fault) (run-unopened fault none unopened)
@@ -184,7 +207,7 @@ module _ {R : Type 0} (left : R → Option (List ℕ)) (before after : Option (L
       (record { opened = files.opened; named = files.named; holds = files.holds.0 })
 
   pub some-replay-fault : (fault : DriverFault)
-      → IsReplayNamedFault left before after options fault
+      → IsNamedFault before after options (λ files. IsReplayFilesFault options (inputs_in left files)) fault
       → OfSome options (λ inputs. IsReplayFilesFault options inputs fault)
   some-replay-fault fault (inl unopened) =
       unread-files (λ inputs. IsReplayFilesFault options inputs fault) (replay-unopened fault unopened)

@@ -7,13 +7,17 @@ use Rattle.like_files.specs.Inputs.{BeginsReportOf}
 use Rattle.like_files.specs.Outcome.{LeavesFront, TellsWrite}
 use Rattle.like_files.specs.Replay.{IsReplayFilesFault}
 use Rattle.like_program.specs.Fault.{of_files}
-use Rattle.like_program.specs.Program.{BeginsAtMost, BeginsSome, HasDone, HasServed, IsAskedFault, IsExample, IsExampleFault, IsServeFault, IsWordsFault, TellsProgram, example_inputs}
+use Rattle.like_program.specs.Program.{BeginsAtMost, HasDone, HasServed, IsAskedFault, IsExample, IsExampleFault, IsServeFault, IsWordsFault, OfSome, TellsProgram, example_inputs}
 use Rattle.like_command.specs.declared.asked.Asked.{Asked}
 use Rattle.like_command.specs.declared.options.Options.{Options}
 use Rattle.like_replies.specs.declared.notice.Notice.{Notice}
 use Rattle.like_files.specs.declared.fault.DriverFault.{DriverFault}
 use Rattle.like_program.specs.declared.fault.ProgramFault.{ProgramFault}
 use Rattle.like_program.specs.declared.fault.ProgramFault.TheVariants.{Files}
+
+-- a front of a report of some files was written
+abbrev pub BeginsSome : Options → Option (List ℕ) → Option (List ℕ) → Type 0
+BeginsSome options old new = OfSome options (λ inputs. BeginsReportOf options inputs old new)
 
 -- what is asked for by some words was done
 pub served : (words : Words) (old new : Option (List ℕ)) (asked : Asked) (notice : Option Notice)

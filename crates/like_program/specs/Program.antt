@@ -44,12 +44,6 @@ example_inputs = record {
   script = None;
 }
 
--- the example was replayed, with this notice on its report
-pub record HasReplayedExample (old new : Option (List ℕ)) (notice : Option Notice) : Type 0 where
-  pub options : Options
-  pub numbers : IsExample options
-  pub replayed : HasReplayed options example_inputs old new notice
-
 -- one file of the options at most is standard input
 abbrev pub NamesInputOnce : Options → Type 0
 NamesInputOnce options = names_twice (names_of options) ≡ false
@@ -71,13 +65,9 @@ HasDone (Help text) old new notice = Appends old new (string_bytes text) × (not
 
 -- the program has done what its words ask for, with this notice: without any word it has replayed its example
 abbrev pub HasServed : Words → Option (List ℕ) → Option (List ℕ) → Option Notice → Type 0
-HasServed [] old new notice = HasReplayedExample old new notice
+HasServed [] old new notice = (options : Options) × IsExample options × HasReplayed options example_inputs old new notice
 HasServed (word ∷ words) old new notice =
     (asked : Asked) × Asks (word ∷ words) asked × HasDone asked old new notice
-
--- a front of a report of some files was written
-abbrev pub BeginsSome : Options → Option (List ℕ) → Option (List ℕ) → Type 0
-BeginsSome options old new = OfSome options (λ inputs. BeginsReportOf options inputs old new)
 
 -- after this fault the output is as before, or this was begun; with a fault before the output it is as before
 abbrev pub BeginsAtMost :
@@ -102,7 +92,8 @@ IsAskedFault words options fault =
 abbrev pub IsWordsFault : Words → Option (List ℕ) → Option (List ℕ) → ProgramFault → Type 0
 IsWordsFault words old new (program.Words fault) = IsParseFault words fault × (new ≡ old)
 IsWordsFault words old new (program.Files options fault) =
-    IsAskedFault words options fault × BeginsAtMost (BeginsSome options) old new fault
+    IsAskedFault words options fault
+    × BeginsAtMost (λ old new. OfSome options (λ inputs. BeginsReportOf options inputs old new)) old new fault
 IsWordsFault words old new program.Output = AsksForHelp words
 IsWordsFault words old new program.Inputs =
     (options : Options) × (Asks words (Run options) ⊎ Asks words (Replay options))

@@ -1,5 +1,5 @@
 ghost use Rattle.std.specs.Prelude.{◌≡◌, ◌∷◌, [], IfErr, IfOk, MatchResult, None, OnOk, Some, length, map};
-ghost use Rattle.like_program.specs.Program.{HasReplayedExample, IsExample, IsExampleFault, TellsProgram, example_requests};
+ghost use Rattle.like_program.specs.Program.{HasServed, IsExample, IsExampleFault, TellsProgram, example_requests};
 
 use crate::fault::{ProgramFault, with_options};
 use like_command::Options;
@@ -20,7 +20,7 @@ pub fn replay_example<T: Threads + Sync, W: Output>(
     alloc: Global,
     out: &mut W,
 ) -> Result<Option<Notice>, ProgramFault>
-    ensures replayed { IfOk result (HasReplayedExample (W.held out.old) (W.held out.new)) }
+    ensures replayed { IfOk result (HasServed [] (W.held out.old) (W.held out.new)) }
     ensures fault { IfErr result (IsExampleFault (W.held out.old) (W.held out.new)) }
     ensures flushed { OnOk result (W.is_flushed out.new) }
     ensures told { MatchResult result (λ _. W.has_failed out.new → W.has_failed out.old)

@@ -1,6 +1,9 @@
 ghost use Rattle.std.specs.Prelude.{OnErr};
 ghost use Rattle.like_files.specs.Outcome.{IsOutcome, LeavesFront, LeavesOutput};
-ghost use Rattle.like_program.specs.Named.{BeginsNamed, HasReplayedNamed, HasRunNamed, IsReplayNamedFault, IsRunNamedFault};
+ghost use Rattle.like_files.specs.Inputs.{BeginsReportOf, inputs_in};
+ghost use Rattle.like_files.specs.Replay.{HasReplayed, IsReplayFilesFault};
+ghost use Rattle.like_files.specs.Run.{HasRun, IsRunFilesFault};
+ghost use Rattle.like_program.specs.Named.{IsNamedFault, OfNamed};
 
 use like_command::Options;
 use like_files::{DriverFault, Opener, Progress, open_files, replay_opened, run_opened};
@@ -23,11 +26,14 @@ pub fn run_named<T: Threads + Wait + Sync, O: Opener, W: Output, P: Progress>(
 where
     O::Reader: Read + Drop + Send,
     ensures run { IsOutcome
-        (HasRunNamed O.Reader.remaining (O.tries opener.old) (O.tries opener.new) options.now)
-        (IsRunNamedFault O.Reader.remaining (O.tries opener.old) (O.tries opener.new) options.now)
+        (λ old new notice. OfNamed (O.tries opener.old) (O.tries opener.new) options.now
+        (λ files. HasRun options.now (inputs_in O.Reader.remaining files) old new notice))
+        (IsNamedFault (O.tries opener.old) (O.tries opener.new) options.now
+        (λ files. IsRunFilesFault options.now (inputs_in O.Reader.remaining files)))
         W.held out.old out.new result }
     ensures begun { OnErr result (LeavesFront
-        (BeginsNamed O.Reader.remaining (O.tries opener.old) (O.tries opener.new) options.now)
+        (λ old new. OfNamed (O.tries opener.old) (O.tries opener.new) options.now
+        (λ files. BeginsReportOf options.now (inputs_in O.Reader.remaining files) old new))
         W.held out.old out.new) }
     ensures output { LeavesOutput W.is_flushed W.has_failed out.old out.new result }
 {
@@ -48,11 +54,14 @@ pub fn replay_named<T: Threads + Sync, O: Opener, W: Output, P: Progress>(
 where
     O::Reader: Read + Drop + Send,
     ensures replayed { IsOutcome
-        (HasReplayedNamed O.Reader.remaining (O.tries opener.old) (O.tries opener.new) options.now)
-        (IsReplayNamedFault O.Reader.remaining (O.tries opener.old) (O.tries opener.new) options.now)
+        (λ old new notice. OfNamed (O.tries opener.old) (O.tries opener.new) options.now
+        (λ files. HasReplayed options.now (inputs_in O.Reader.remaining files) old new notice))
+        (IsNamedFault (O.tries opener.old) (O.tries opener.new) options.now
+        (λ files. IsReplayFilesFault options.now (inputs_in O.Reader.remaining files)))
         W.held out.old out.new result }
     ensures begun { OnErr result (LeavesFront
-        (BeginsNamed O.Reader.remaining (O.tries opener.old) (O.tries opener.new) options.now)
+        (λ old new. OfNamed (O.tries opener.old) (O.tries opener.new) options.now
+        (λ files. BeginsReportOf options.now (inputs_in O.Reader.remaining files) old new))
         W.held out.old out.new) }
     ensures output { LeavesOutput W.is_flushed W.has_failed out.old out.new result }
 {

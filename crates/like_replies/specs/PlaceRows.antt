@@ -4,10 +4,11 @@ use Rattle.std.specs.List.{enumerate_from, flat_map}
 use Rattle.like_requests.specs.Pages.{Page}
 use Rattle.like_promises.specs.declared.place.Place.{Place}
 use Rattle.like_promises.specs.declared.report.Report.{Report}
+use Rattle.like_promises.specs.Collected.{rows_of}
 use Rattle.like_promises.specs.places.Places.{lists_in}
-use Rattle.like_replies.specs.Reported.{shown_of}
+use Rattle.like_replies.specs.Reported.{shown_with}
 use Rattle.like_replies.specs.declared.extent.Extent.{Extent}
-use Rattle.like_replies.specs.Rows.{name_of, report_text, rows_text}
+use Rattle.like_replies.specs.Rows.{name_of, report_rows, rows_text}
 
 -- the row of a place of a page: the page's number, the worker, the phase, the count before, the page's name, the likes
 abbrev pub place_row : List Page → ℕ → Place → List (List ℕ)
@@ -15,16 +16,12 @@ place_row pages page p =
     codes "place" ∷ decimal page ∷ decimal p.worker ∷ decimal p.phase ∷ decimal p.old
     ∷ name_of pages page ∷ decimal p.n ∷ []
 
--- the rows of a page's places
-abbrev pub page_place_rows : List Page → ℕ → List Place → List (List (List ℕ))
-page_place_rows pages page places = map (place_row pages page) places
-
 -- the rows of all places, by pages from 0
 abbrev pub place_rows : List Page → List (List Place) → List (List (List ℕ))
-place_rows pages rows = flat_map (λ p. page_place_rows pages p.0 p.1) (enumerate_from 0 rows)
+place_rows pages rows = flat_map (λ p. map (place_row pages p.0) p.1) (enumerate_from 0 rows)
 
 -- the text of a report, or of its totals alone; the rows of its places follow if they are asked for
 abbrev pub text_of : Extent → List Page → Report → List ℕ
 text_of extent pages report =
-    report_text pages (shown_of extent.totals report)
+    rows_text (report_rows pages (shown_with (if extent.totals then [] else rows_of report.replies) report))
     ++ (if extent.places then rows_text (place_rows pages (lists_in report.places.items)) else [])

@@ -1,5 +1,5 @@
 -- What a report's text shows of it, as lists.
-use Rattle.std.specs.Prelude.{ℕ, Bool, if◌then◌else◌, List, [], Option}
+use Rattle.std.specs.Prelude.{ℕ, List, Option}
 use Rattle.like_promises.specs.declared.chosen.Chosen.{Chosen}
 use Rattle.like_promises.specs.declared.answer.Answer.{Answer}
 use Rattle.like_promises.specs.declared.report.Report.{Report}
@@ -20,7 +20,3 @@ reported r =
 -- what is shown of a report with these answers in place of its own
 abbrev pub shown_with : List (List Answer) → Report → Reported
 shown_with replies r = record (reported r) { replies = replies }
-
--- what is shown of a report: all of it, or with totals alone all but its answers
-abbrev pub shown_of : Bool → Report → Reported
-shown_of totals r = shown_with (if totals then [] else rows_of r.replies) r

@@ -1,10 +1,10 @@
 -- The parts of a reply's row, as text.
 use Rattle.std.specs.Prelude.{ℕ, List, [], ◌∷◌, ◌++◌, codes, decimal}
-use Rattle.csv.specs.Writing.{default_writer, end_text, field_text, fields_text, row_body}
+use Rattle.csv.specs.Writing.{default_writer, end_text, fields_text, row_body}
 use Rattle.like_requests.specs.Pages.{Page}
 use Rattle.like_promises.specs.declared.reply.Reply.{Reply}
 use Rattle.like_promises.specs.declared.place.Place.{Place}
-use Rattle.like_replies.specs.Rows.{answer_word, shown_count, shown_page}
+use Rattle.like_replies.specs.Rows.{shown_fields}
 
 -- the first two fields of the rows of a submitter's requests, and the comma after them
 abbrev pub reply_start : ℕ → List ℕ
@@ -16,10 +16,6 @@ reply_start submitter =
 pub record RowHead : Type 0 where
   pub start : List ℕ
   pub number : ℕ
-
--- the text of such a beginning
-abbrev pub head_text : RowHead → List ℕ
-head_text head = head.start ++ field_text default_writer (decimal head.number)
 
 -- the first four fields of the row of a place, and the comma after them
 abbrev pub place_start : ℕ → Place → List ℕ
@@ -34,5 +30,4 @@ phase_text phase = fields_text default_writer (decimal phase ∷ [])
 -- the last three fields of the row of a reply, each after its comma, and the end of the row
 abbrev pub shown_text : List Page → Reply → List ℕ
 shown_text pages reply =
-    fields_text default_writer (answer_word reply ∷ shown_page pages reply ∷ shown_count reply ∷ [])
-    ++ end_text default_writer.terminator
+    fields_text default_writer (shown_fields pages reply) ++ end_text default_writer.terminator

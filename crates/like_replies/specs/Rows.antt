@@ -4,7 +4,6 @@ use Rattle.std.specs.List.{enumerate_from, filter_map, flat_map, range_with_len}
 use Rattle.std.specs.Option.{ForSome, option_map_or}
 use Rattle.csv.specs.Writing.{default_writer, row_text}
 use Rattle.like_requests.specs.Pages.{Page}
-use Rattle.like_requests.specs.declared.verdict.Verdict.{Verdict}
 use Rattle.like_requests.specs.declared.verdict.Verdict.TheVariants.{Accepted, UnknownUser, OtherHome, UnknownPage}
 use Rattle.like_core.specs.Phase.{is_hot}
 use Rattle.like_promises.specs.declared.chosen.Chosen.{Chosen}
@@ -17,29 +16,19 @@ use Rattle.like_replies.specs.Reported.{Reported}
 abbrev pub name_of : List Page → ℕ → List ℕ
 name_of pages page = option_map_or (λ p. p.name) (slice_get pages page) []
 
--- the word of a refusal; an accepted request is not refused
-abbrev pub verdict_word : Verdict → List ℕ
-verdict_word Accepted = []
-verdict_word UnknownUser = codes "unknown-user"
-verdict_word OtherHome = codes "other-home"
-verdict_word UnknownPage = codes "unknown-page"
-
+-- the word of a reply; an accepted request is not refused
 abbrev pub answer_word : Reply → List ℕ
 answer_word Liked = codes "liked"
 answer_word (Seen last count) = codes "seen"
-answer_word (Refused verdict) = verdict_word verdict
+answer_word (Refused UnknownUser) = codes "unknown-user"
+answer_word (Refused OtherHome) = codes "other-home"
+answer_word (Refused UnknownPage) = codes "unknown-page"
+answer_word (Refused Accepted) = []
 
--- the name of the page that a reply shows as the last liked one
-abbrev pub shown_page : List Page → Reply → List ℕ
-shown_page pages Liked = []
-shown_page pages (Seen last count) = option_map_or (name_of pages) last []
-shown_page pages (Refused verdict) = []
-
--- the count that a reply shows
-abbrev pub shown_count : Reply → List ℕ
-shown_count Liked = []
-shown_count (Seen last count) = decimal count
-shown_count (Refused verdict) = []
+-- what a reply shows: its word, and for a look the name of the page liked last and the count
+abbrev pub shown_fields : List Page → Reply → List (List ℕ)
+shown_fields pages (Seen last count) = codes "seen" ∷ option_map_or (name_of pages) last [] ∷ decimal count ∷ []
+shown_fields pages reply = answer_word reply ∷ [] ∷ [] ∷ []
 
 abbrev pub header_row : List (List ℕ)
 header_row =
@@ -48,8 +37,7 @@ header_row =
 -- the row of a submitter's request with this number
 abbrev pub reply_row : List Page → ℕ → ℕ → Answer → List (List ℕ)
 reply_row pages submitter number a =
-    codes "reply" ∷ decimal submitter ∷ decimal number ∷ decimal a.phase
-    ∷ answer_word a.reply ∷ shown_page pages a.reply ∷ shown_count a.reply ∷ []
+    codes "reply" ∷ decimal submitter ∷ decimal number ∷ decimal a.phase ∷ shown_fields pages a.reply
 
 -- the row of a page with its final count
 abbrev pub page_row : List Page → ℕ → ℕ → List (List ℕ)
@@ -70,13 +58,9 @@ abbrev pub answer_rows : List Page → ℕ → ℕ → List Answer → List (Lis
 answer_rows pages submitter before answers =
     map (λ p. reply_row pages submitter p.0 p.1) (enumerate_from (before + 1) answers)
 
--- the rows of a submitter's requests, by their numbers from 1
-abbrev pub submitter_rows : List Page → ℕ → List Answer → List (List (List ℕ))
-submitter_rows pages submitter answers = answer_rows pages submitter 0 answers
-
 -- the rows of all requests, by submitter and number
 abbrev pub reply_rows : List Page → List (List Answer) → List (List (List ℕ))
-reply_rows pages replies = flat_map (λ p. submitter_rows pages p.0 p.1) (enumerate_from 0 replies)
+reply_rows pages replies = flat_map (λ p. answer_rows pages p.0 0 p.1) (enumerate_from 0 replies)
 
 -- the rows of the pages, by their numbers from 0
 abbrev pub page_rows : List Page → List ℕ → List (List (List ℕ))
@@ -86,48 +70,26 @@ page_rows pages counts = map (λ p. page_row pages p.0 p.1) (enumerate_from 0 co
 abbrev pub liker_rows : List Page → ℕ → List (Option ℕ) → List (List (List ℕ))
 liker_rows pages before last = filter_map (λ p. option_map (user_row pages p.0) p.1) (enumerate_from before last)
 
--- the rows of the users with an accepted like, by their numbers from 0
-abbrev pub user_rows : List Page → List (Option ℕ) → List (List (List ℕ))
-user_rows pages last = liker_rows pages 0 last
-
--- the rows of a phase's hot pages with numbers below this one
-abbrev pub hot_rows_below : List Page → Chosen → ℕ → List (List (List ℕ))
-hot_rows_below pages c below = map (hot_row pages c.phase) (filter (is_hot c.mask) (range_with_len 0 below))
-
 -- the rows of the hot pages, by phase
 abbrev pub hot_rows : List Page → List Chosen → List (List (List ℕ))
-hot_rows pages hot = flat_map (λ c. hot_rows_below pages c (length pages)) hot
+hot_rows pages hot =
+    flat_map (λ c. map (hot_row pages c.phase) (filter (is_hot c.mask) (range_with_len 0 (length pages)))) hot
 
 -- the rows of a report: the header, the requests, the pages, the users, the hot pages
 abbrev pub report_rows : List Page → Reported → List (List (List ℕ))
 report_rows pages r =
     header_row
-    ∷ (reply_rows pages r.replies ++ page_rows pages r.counts ++ user_rows pages r.last ++ hot_rows pages r.hot)
+    ∷ (reply_rows pages r.replies ++ page_rows pages r.counts ++ liker_rows pages 0 r.last ++ hot_rows pages r.hot)
 
 -- the text of rows
 abbrev pub rows_text : List (List (List ℕ)) → List ℕ
 rows_text rows = flat_map (row_text default_writer) rows
 
--- the text of a report
-abbrev pub report_text : List Page → Reported → List ℕ
-report_text pages r = rows_text (report_rows pages r)
-
--- the page that a reply shows is there
-abbrev pub ShowsThere : List Page → Reply → Type 0
-ShowsThere pages Liked = ⊤
-ShowsThere pages (Seen last count) = ForSome last (λ page. page < length pages)
-ShowsThere pages (Refused verdict) = ⊤
-
--- no accepted request is refused
-abbrev pub IsAnswer : Reply → Type 0
-IsAnswer Liked = ⊤
-IsAnswer (Seen last count) = ⊤
-IsAnswer (Refused verdict) = verdict ≢ Accepted
-
--- a reply can be shown
-pub record IsShowable (pages : List Page) (reply : Reply) : Type 0 where
-  pub there : ShowsThere pages reply
-  pub answer : IsAnswer reply
+-- a reply can be shown: the page that it shows is there, and no accepted request is refused
+abbrev pub IsShowable : List Page → Reply → Type 0
+IsShowable pages Liked = ⊤
+IsShowable pages (Seen last count) = ForSome last (λ page. page < length pages)
+IsShowable pages (Refused verdict) = verdict ≢ Accepted
 
 -- a report counts each page, and shows pages that are there and replies that can be
 pub record IsWritable (pages : List Page) (r : Reported) : Type 0 where

@@ -1,11 +1,11 @@
 -- The sections of rows that a report and its places are written by.
-use Rattle.std.specs.Prelude.{◌≡◌, ◌<◌, ◌+◌, ◌^◌, ⊤, ℕ, All, List, [], ◌∷◌, length}
+use Rattle.std.specs.Prelude.{◌≡◌, ◌<◌, ◌+◌, ◌^◌, ⊤, ℕ, All, List, [], ◌∷◌, length, map}
 use Rattle.std.specs.List.{flat_map}
 use Rattle.std.specs.Option.{ForSome}
 use Rattle.like_requests.specs.Pages.{Page}
 use Rattle.like_replies.specs.declared.report.section.Section.{Section}
 use Rattle.like_replies.specs.declared.report.section.Section.TheVariants.{Header, Answers, Counts, Users, Hot, Places}
-use Rattle.like_replies.specs.PlaceRows.{page_place_rows}
+use Rattle.like_replies.specs.PlaceRows.{place_row}
 use Rattle.like_replies.specs.Rows.{IsShowable, answer_rows, header_row, hot_rows, liker_rows, page_rows}
 
 -- the rows of a section
@@ -15,7 +15,7 @@ section_rows pages (Answers submitter before answers) = answer_rows pages submit
 section_rows pages (Counts counts) = page_rows pages counts.now
 section_rows pages (Users before last) = liker_rows pages before last.now
 section_rows pages (Hot hot) = hot_rows pages hot.now
-section_rows pages (Places page places) = page_place_rows pages page places.now
+section_rows pages (Places page places) = map (place_row pages page) places.now
 
 -- a section shows replies that can be shown and pages that are there, and its numbers have at most 64 bits
 abbrev pub HasRows : List Page → Section → Type 0

@@ -1,10 +1,11 @@
 -- The numbers of a report, and their text.
-use Rattle.std.specs.Prelude.{ℕ, List, ◌++◌, ◌+◌, length, codes, decimal, fold, bit_or, count_by, count_ones, sum_by}
+use Rattle.std.specs.Prelude.{ℕ, Bool, false, true, List, ◌++◌, ◌+◌, length, codes, decimal, fold, bit_or, count_by, count_ones, sum_by}
 use Rattle.std.specs.Str.{bytes_eq}
 use Rattle.like_promises.specs.declared.chosen.Chosen.{Chosen}
-use Rattle.like_promises.specs.declared.answer.Answer.{Answer}
 use Rattle.like_promises.specs.declared.report.Report.{Report}
 use Rattle.like_promises.specs.declared.replies.Replies.{Replies}
+use Rattle.like_promises.specs.declared.reply.Reply.{Reply}
+use Rattle.like_promises.specs.declared.reply.Reply.TheVariants.{Refused}
 use Rattle.like_replies.specs.Rows.{answer_word}
 use Rattle.like_replies.specs.declared.summary.Summary.{Summary}
 
@@ -12,13 +13,18 @@ use Rattle.like_replies.specs.declared.summary.Summary.{Summary}
 abbrev pub requests_in : Replies → ℕ
 requests_in replies = sum_by (λ row. length row.items) replies.rows.items
 
--- how many of a submitter's replies have this word as their answer
-abbrev pub answered_in : List ℕ → List Answer → ℕ
-answered_in word row = count_by (λ a. bytes_eq (answer_word a.reply) word) row
+-- how many replies pass a test
+abbrev pub count_replies : (Reply → Bool) → Replies → ℕ
+count_replies test replies = sum_by (λ row. count_by (λ a. test a.reply) row.items) replies.rows.items
 
 -- how many replies have this answer
 abbrev pub answered : List ℕ → Replies → ℕ
-answered word replies = sum_by (λ row. answered_in word row.items) replies.rows.items
+answered word replies = count_replies (λ reply. bytes_eq (answer_word reply) word) replies
+
+-- a reply refuses its request
+abbrev pub is_refusal : Reply → Bool
+is_refusal (Refused verdict) = true
+is_refusal reply = false
 
 -- how many pages were hot in some phase
 abbrev pub hot_pages : List Chosen → ℕ
@@ -28,6 +34,7 @@ hot_pages hot = count_ones (fold (λ mask c. bit_or mask c.mask) 0 hot)
 abbrev pub summary_of : Report → Summary
 summary_of r = record {
   requests = requests_in r.replies;
+  refused = count_replies is_refusal r.replies;
   liked = answered (codes "liked") r.replies;
   seen = answered (codes "seen") r.replies;
   unknown_user = answered (codes "unknown-user") r.replies;

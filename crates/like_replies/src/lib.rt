@@ -15,7 +15,6 @@ pub use like_collection::{CollectFault, collect, collect_in_parallel, places};
 pub use like_promises::{Answer, Place, Replies, Report};
 pub use notice::Notice;
 pub use output::Output;
-pub use refusals::Refusals;
 pub use report::text::{Text, write_places, write_report};
 pub use summary::Summary;
 pub use write_fault::WriteFault;

@@ -3,8 +3,8 @@ ghost use Rattle.std.specs.Io.KnownBytes.{Appends};
 ghost use Rattle.like_replies.specs.Notices.{notice_of, notice_text};
 ghost use Rattle.like_replies.specs.Summary.{requests_in};
 
-use crate::refusals::{Refusals, refused_in};
-use crate::summary::Summary;
+use crate::refusals::write_refusals;
+use crate::summary::{Summary, refused_in};
 use like_promises::Report;
 use std::io;
 use std::io::Write;
@@ -14,8 +14,8 @@ use std::io::Write;
 pub enum Notice {
     /// Its summary, which was asked for.
     Summed(Summary),
-    /// Its refused requests, so that they don't go unseen.
-    Refused(Refusals),
+    /// The same numbers, for its refused requests, so that they don't go unseen.
+    Refused(Summary),
 }
 
 impl Notice {
@@ -30,7 +30,7 @@ impl Notice {
         if refused_in(&report.replies) == 0 {
             return None;
         }
-        Some(Notice::Refused(Refusals::of(report)))
+        Some(Notice::Refused(Summary::of(report)))
     }
 
     /// Writes its text.
@@ -40,7 +40,7 @@ impl Notice {
     {
         match self {
             Notice::Summed(summary) => summary.write(out),
-            Notice::Refused(refusals) => refusals.write(out),
+            Notice::Refused(summary) => write_refusals(summary, out),
         }
     }
 }

@@ -1,7 +1,8 @@
-ghost use Rattle.std.specs.Prelude.{◌≡◌, ◌<◌, ◌^◌, OnOk};
+ghost use Rattle.std.specs.Prelude.{◌≡◌, ◌<◌, ◌^◌, OnOk, count_by};
 ghost use Rattle.std.specs.Io.KnownBytes.{Appends};
+ghost use Rattle.std.specs.Str.{bytes_eq};
 ghost use Rattle.like_replies.specs.Rows.{answer_word};
-ghost use Rattle.like_replies.specs.Summary.{answered, answered_in, hot_pages, number_line, requests_in, summary_of, summary_text};
+ghost use Rattle.like_replies.specs.Summary.{answered, count_replies, hot_pages, is_refusal, number_line, requests_in, summary_of, summary_text};
 
 use like_promises::{Answer, Chosen, Replies, Reply, Report};
 use like_requests::Verdict;
@@ -12,6 +13,7 @@ use std::io::Write;
 #[derive(Clone, Copy, PartialEq, Eq)]
 pub struct Summary {
     pub requests: u64,
+    pub refused: u64,
     pub liked: u64,
     pub seen: u64,
     pub unknown_user: u64,
@@ -33,6 +35,7 @@ impl Summary {
         let replies = &report.replies;
         Summary {
             requests: requests_in(replies),
+            refused: refused_in(replies),
             liked: answered(replies, "liked"),
             seen: answered(replies, "seen"),
             unknown_user: answered(replies, "unknown-user"),
@@ -69,16 +72,16 @@ fn write_line<W: Write>(out: &mut W, name: &str, number: u64) -> io::Result<()>
     writeln!(out, "{name}: {number}")
 }
 
-/// How many requests have a reply.
-pub fn requests_in(replies: &Replies) -> u64
+// How many requests have a reply.
+fn requests_in(replies: &Replies) -> u64
     requires { requests_in replies.now < 2 ^ 64 }
     ensures { result ≡ requests_in replies.now }
 {
     replies.rows.iter().map(|row| row.len() as u64).sum()
 }
 
-/// How many replies have this word as their answer.
-pub fn answered(replies: &Replies, word: &str) -> u64
+// How many replies have this word as their answer.
+fn answered(replies: &Replies, word: &str) -> u64
     requires { answered word.now replies.now < 2 ^ 64 }
     ensures { result ≡ answered word.now replies.now }
 {
@@ -91,11 +94,33 @@ pub fn answered(replies: &Replies, word: &str) -> u64
 
 // How many of a submitter's replies have this word as their answer.
 fn answered_in(row: &[Answer], word: &str) -> usize
-    ensures { result ≡ answered_in word.now row.now }
+    ensures { result ≡ count_by (λ a. bytes_eq (answer_word a.reply) word.now) row.now }
 {
     row.iter()
         .filter(|answer| word_of(answer.reply) == word)
         .count()
+}
+
+/// How many requests were refused.
+pub fn refused_in(replies: &Replies) -> u64
+    requires { count_replies is_refusal replies.now < 2 ^ 64 }
+    ensures { result ≡ count_replies is_refusal replies.now }
+{
+    replies.rows.iter().map(|row| refused_of(row) as u64).sum()
+}
+
+// How many of a submitter's requests were refused.
+fn refused_of(row: &[Answer]) -> usize
+    ensures { result ≡ count_by (λ a. is_refusal a.reply) row.now }
+{
+    row.iter().filter(|answer| is_refusal(answer.reply)).count()
+}
+
+// Whether a reply refuses its request.
+fn is_refusal(reply: Reply) -> bool
+    ensures { result ≡ is_refusal reply }
+{
+    matches!(reply, Reply::Refused(_))
 }
 
 // The word of an answer. No accepted request is refused.

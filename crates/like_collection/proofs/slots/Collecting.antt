@@ -8,12 +8,13 @@ use Rattle.like_promises.specs.declared.log.WorkerLog.{WorkerLog}
 use Rattle.like_promises.specs.declared.answer.Answer.{Answer}
 use Rattle.like_collection.specs.declared.collect_fault.CollectFault.{CollectFault}
 use Rattle.like_collection.specs.declared.collect_fault.CollectFault.TheVariants.{Stranger, Double, Missing, Memory}
-use Rattle.like_collection.specs.CollectFaults.{IsCollectFault, IsEntryFault, IsFirstMissing}
+use Rattle.like_collection.specs.CollectFaults.{IsCollectFault, IsEntryFault}
 use Rattle.like_promises.specs.Collected.{IsCollected, entries_in, entries_of}
 use Rattle.like_collection.specs.Entries.{IsRequest}
-use Rattle.like_collection.specs.Slots.{HoldsAll, IsSlotsFault, RefusesEntry}
+use Rattle.like_collection.specs.Slots.{HoldsAll, IsSlotsFault}
 use Rattle.like_collection.proofs.slots.Holding.{AreGood-held, none-from_slot, slot-from_none}
 use Rattle.like_collection.proofs.Lists.{parts_at}
+use Rattle.like_collection.proofs.slots.Putting.{RefusesEntry}
 use Rattle.like_collection.proofs.slots.SlotPlaces.{IsRequest-slot, IsSlot-request, sized-full, slot_at-full}
 
 -- an entry that is refused is the first that is bad
@@ -145,14 +146,16 @@ pub IsCollectFault-empty : (sizes : List ℕ) (entries : List Ran) (slots : List
     → IsCollectFault sizes entries fault
 IsCollectFault-empty sizes entries slots (Missing submitter number) held (row, is, f) =
     let at : row ≡ submitter = omega (arith, is) in
-    subst (λ s. IsFirstMissing sizes entries s number) at (record {
-      good = AreGood-held sizes entries slots held;
-      request = IsRequest-slot sizes slots row number held.sized f.slot;
-      missing = none-from_slot sizes entries slots row number held f.empty;
-      least = λ s m request earlier none.
-          f.first s m (IsSlot-request sizes slots s m held.sized request) earlier
-          (slot-from_none sizes entries slots s m held none);
-    })
+    subst (λ s. IsCollectFault sizes entries (Missing s number)) at (
+      AreGood-held sizes entries slots held,
+      record {
+        is = IsRequest-slot sizes slots row number held.sized f.is;
+        lacks = none-from_slot sizes entries slots row number held f.lacks;
+        least = λ s m request earlier none.
+            f.least s m (IsSlot-request sizes slots s m held.sized request) earlier
+            (slot-from_none sizes entries slots s m held none);
+      },
+    )
 IsCollectFault-empty sizes entries slots Memory held f = tt
 IsCollectFault-empty sizes entries slots (Stranger submitter number) held f = absurd f
 IsCollectFault-empty sizes entries slots (Double submitter number) held f = absurd f

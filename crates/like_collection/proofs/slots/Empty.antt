@@ -5,8 +5,9 @@ use Rattle.std.proofs.lemmas.Option.{get_or_from_slice_get, slice_get_read}
 use Rattle.like_promises.specs.declared.answer.Answer.{Answer}
 use Rattle.like_collection.specs.declared.collect_fault.CollectFault.{CollectFault}
 use Rattle.like_collection.specs.declared.collect_fault.CollectFault.TheVariants.{Stranger, Double, Missing, Memory}
-use Rattle.like_collection.specs.Entries.{Precedes}
-use Rattle.like_collection.specs.Slots.{IsFirstEmpty, IsSlot, IsSlotsFault, slot_at}
+use Rattle.std.specs.Prelude.{◌⊎◌}
+use Rattle.like_collection.specs.Entries.{IsLeast}
+use Rattle.like_collection.specs.Slots.{IsSlot, IsSlotsFault, slot_at}
 use Rattle.like_collection.proofs.slots.SlotPlaces.{not_empty}
 
 -- a place before the end of the answers is not empty
@@ -28,13 +29,13 @@ pub first_of_row : (row : List (Option Answer)) (place : ℕ) (answers : List An
     → place < length row
     → get_or row place None ≡ None
     → take place row ≡ map Some answers
-    → IsFirstEmpty (row ∷ []) 0 (suc place)
+    → IsLeast (IsSlot (row ∷ [])) (λ s m. slot_at (row ∷ []) s m ≡ None) 0 (suc place)
 first_of_row row place answers within here full = record {
-  slot = record { there = omega arith; from_one = omega arith; within = omega (arith, within) };
-  empty = here;
-  first = before;
+  is = record { there = omega arith; from_one = omega arith; within = omega (arith, within) };
+  lacks = here;
+  least = before;
 } where
-  before : (s m : ℕ) → IsSlot (row ∷ []) s m → Precedes s m 0 (suc place) → slot_at (row ∷ []) s m ≢ None
+  before : (s m : ℕ) → IsSlot (row ∷ []) s m → (s < 0) ⊎ ((s ≡ 0) × (m < suc place)) → slot_at (row ∷ []) s m ≢ None
   before s m slot (inl below) e = absurd (omega (arith, below))
   before zero zero slot (inr same) e = absurd (omega (arith, slot.from_one))
   before zero (suc p) slot (inr same) e =
@@ -74,20 +75,20 @@ pub first_of_all : (slots : List (List (Option Answer))) (i : ℕ) (row : List (
     → IsSlotsFault i (row ∷ []) fault
     → IsSlotsFault 0 slots fault
 first_of_all slots i row rows (Missing submitter number) there is full (suc k, at, f) =
-    absurd (omega (arith, f.slot.there))
+    absurd (omega (arith, f.is.there))
 first_of_all slots i row rows (Missing submitter number) there is full (zero, at, f) = (
   i,
   omega (arith, at),
   record {
-    slot = record { there = there; from_one = f.slot.from_one; within = omega (arith, f.slot.within, ap length same) };
-    empty = slot_at-row slots i row number same ∙ f.empty;
-    first = before;
+    is = record { there = there; from_one = f.is.from_one; within = omega (arith, f.is.within, ap length same) };
+    lacks = slot_at-row slots i row number same ∙ f.lacks;
+    least = before;
   },
 ) where
   same : get_or slots i [] ≡ row
   same = get_or_from_slice_get slots i row [] (slice_get_read slots (length slots) i row refl there is)
 
-  before : (s m : ℕ) → IsSlot slots s m → Precedes s m i number → slot_at slots s m ≢ None
+  before : (s m : ℕ) → IsSlot slots s m → (s < i) ⊎ ((s ≡ i) × (m < number)) → slot_at slots s m ≢ None
   before s m slot (inl below) e = full_before slots i rows (omega (arith, there)) full s m below slot e
   before s m slot (inr earlier) e =
       let at_row : get_or slots s [] ≡ row = ap (λ (x : ℕ). get_or slots x []) earlier.0 ∙ same in
@@ -98,7 +99,7 @@ first_of_all slots i row rows (Missing submitter number) there is full (zero, at
         from_one = slot.from_one;
         within = omega (arith, slot.within, ap length at_row);
       } in
-      f.first 0 m in_row (inr (refl, earlier.1)) (sym (slot_at-row slots s row m at_row) ∙ e)
+      f.least 0 m in_row (inr (refl, earlier.1)) (sym (slot_at-row slots s row m at_row) ∙ e)
 first_of_all slots i row rows Memory there is full f = tt
 first_of_all slots i row rows (Stranger submitter number) there is full f = absurd f
 first_of_all slots i row rows (Double submitter number) there is full f = absurd f

@@ -8,8 +8,9 @@ use Rattle.like_promises.specs.declared.log.Ran.{Ran}
 use Rattle.like_promises.specs.declared.answer.Answer.{Answer}
 use Rattle.like_collection.specs.Entries.{AreGood, IsRequest}
 use Rattle.like_promises.specs.Collected.{answer_of, entries_of}
-use Rattle.like_collection.specs.Slots.{HoldsAll, Puts, slot_at}
+use Rattle.like_collection.specs.Slots.{HoldsAll, slot_at}
 use Rattle.like_collection.proofs.Entries.{is_of}
+use Rattle.like_collection.proofs.slots.Putting.{Puts}
 use Rattle.like_collection.proofs.slots.SlotPlaces.{IsRequest-slot, sized-start, sized-write, slot_at-other, slot_at-same, slot_at-start}
 
 -- an option that gives no element is none

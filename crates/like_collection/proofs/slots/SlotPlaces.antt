@@ -6,7 +6,8 @@ use Rattle.std.specs.List.{slice_get}
 use Rattle.like_promises.specs.declared.answer.Answer.{Answer}
 use Rattle.like_promises.specs.Workload.{nth}
 use Rattle.like_collection.specs.Entries.{IsRequest}
-use Rattle.like_collection.specs.Slots.{IsSlot, slot_at, with_answer}
+use Rattle.like_collection.specs.Slots.{IsSlot, slot_at}
+use Rattle.like_collection.proofs.slots.Putting.{with_answer}
 
 -- the length of a row
 pub row-length : (slots : List (List (Option Answer))) (submitter : ℕ)

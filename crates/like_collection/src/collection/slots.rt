@@ -1,9 +1,9 @@
-ghost use Rattle.std.specs.Prelude.{◌≡◌, ◌<◌, ◌≤◌, ◌^◌, ◌↔◌, ℕ, List, ◌++◌, All, IfOk, IsTrue, MatchResult, Some, None, length, map, replicate};
+ghost use Rattle.std.specs.Prelude.{◌≡◌, ◌<◌, ◌≤◌, ◌^◌, ◌↔◌, ℕ, List, [], ◌∷◌, ◌++◌, All, IfOk, IsTrue, MatchResult, Some, None, length, map, replicate};
 ghost use Rattle.like_limits.specs.Limits.{max_submitters};
 ghost use Rattle.like_promises.specs.declared.log.Ran.{Ran};
 ghost use Rattle.like_collection.specs.CollectFaults.{IsEntryFault};
 ghost use Rattle.like_promises.specs.Collected.{rows_of};
-ghost use Rattle.like_collection.specs.Slots.{HoldsAll, IsSlot, IsSlotsFault, Puts, RefusesEntry};
+ghost use Rattle.like_collection.specs.Slots.{HoldsAll, IsSlot, IsSlotsFault};
 
 use crate::collect_fault::CollectFault;
 use crate::collection::slot_row::SlotRow;
@@ -48,9 +48,10 @@ impl Slots {
 
     // Puts the answer of an entry at its place.
     fn put(&mut self, entry: &Ran) -> Result<(), CollectFault>
-        ensures { MatchResult result
-            (λ _. Puts self.old entry.now self.new)
-            (RefusesEntry self.old entry.now) }
+        ensures { (sizes : List ℕ) (before : List Ran) → HoldsAll sizes before self.old
+            → MatchResult result
+            (λ _. HoldsAll sizes (before ++ entry.now ∷ []) self.new)
+            (IsEntryFault sizes (before ++ entry.now ∷ [])) }
     {
         let Ran {
             phase,

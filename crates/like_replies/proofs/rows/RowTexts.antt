@@ -2,15 +2,16 @@
 use Rattle.std.proofs.Common.{◌≡◌, ℕ, List, Option, [], ◌∷◌, ◌++◌, refl, ap, append-nil, append_assoc}
 use Rattle.std.specs.Prelude.{codes, decimal}
 use Rattle.std.specs.Option.{option_map_or}
-use Rattle.csv.specs.Writing.{default_writer, field_text, fields_text, is_blank, row_text}
+use Rattle.csv.specs.Writing.{default_writer, end_text, field_text, fields_text, is_blank, row_text}
 use Rattle.like_requests.specs.Pages.{Page}
 use Rattle.like_requests.specs.declared.verdict.Verdict.TheVariants.{OtherHome, UnknownPage, UnknownUser}
+use Rattle.like_promises.specs.declared.reply.Reply.{Reply}
 use Rattle.like_promises.specs.declared.reply.Reply.TheVariants.{Liked, Refused, Seen}
 use Rattle.like_promises.specs.declared.answer.Answer.{Answer}
 use Rattle.like_promises.specs.declared.place.Place.{Place}
 use Rattle.like_replies.specs.PlaceRows.{place_row}
 use Rattle.like_replies.specs.RowParts.{phase_text, place_start, reply_start, shown_text}
-use Rattle.like_replies.specs.Rows.{answer_word, hot_row, name_of, page_row, reply_row, shown_count, shown_page, user_row}
+use Rattle.like_replies.specs.Rows.{answer_word, hot_row, name_of, page_row, reply_row, shown_fields, user_row}
 
 -- the text of a number
 abbrev pub number_text : ℕ → List ℕ
@@ -68,15 +69,30 @@ reply_in_parts : (submitter number phase answer page count : List ℕ)
     ++ (44 ∷ (phase ++ []) ++ ((44 ∷ (answer ++ 44 ∷ (page ++ 44 ∷ (count ++ [])))) ++ 10 ∷ []))
 reply_in_parts submitter number phase answer page count = simp (append_assoc, append-nil)
 
+reply_fields : (submitter number phase : ℕ) (answer page count : List ℕ)
+    → row_text default_writer
+    (codes "reply" ∷ decimal submitter ∷ decimal number ∷ decimal phase ∷ answer ∷ page ∷ count ∷ [])
+    ≡ (reply_start submitter ++ number_text number)
+    ++ (phase_text phase
+    ++ (fields_text default_writer (answer ∷ page ∷ count ∷ []) ++ end_text default_writer.terminator))
+unfolding fields_text is_blank
+reply_fields submitter number phase answer page count =
+    ap (λ t. codes "reply," ++ t)
+    (reply_in_parts (number_text submitter) (number_text number) (number_text phase)
+    (field_text default_writer answer) (field_text default_writer page) (field_text default_writer count))
+
 pub reply-text : (pages : List Page) (submitter number : ℕ) (a : Answer)
     → row_text default_writer (reply_row pages submitter number a)
     ≡ (reply_start submitter ++ number_text number) ++ (phase_text a.phase ++ shown_text pages a.reply)
-unfolding fields_text is_blank
-reply-text pages submitter number a =
-    ap (λ t. codes "reply," ++ t)
-    (reply_in_parts (number_text submitter) (number_text number) (number_text a.phase)
-    (field_text default_writer (answer_word a.reply)) (field_text default_writer (shown_page pages a.reply))
-    (field_text default_writer (shown_count a.reply)))
+reply-text pages submitter number a = by a.reply where
+  by : (reply : Reply)
+      → row_text default_writer
+      (codes "reply" ∷ decimal submitter ∷ decimal number ∷ decimal a.phase ∷ shown_fields pages reply)
+      ≡ (reply_start submitter ++ number_text number) ++ (phase_text a.phase ++ shown_text pages reply)
+  by Liked = reply_fields submitter number a.phase (codes "liked") [] []
+  by (Seen last count) =
+      reply_fields submitter number a.phase (codes "seen") (option_map_or (name_of pages) last []) (decimal count)
+  by (Refused verdict) = reply_fields submitter number a.phase (answer_word (Refused verdict)) [] []
 
 -- the row of a page
 page_in_parts : (page name count : List ℕ)

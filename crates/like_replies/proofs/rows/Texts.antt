@@ -15,8 +15,8 @@ use Rattle.like_promises.specs.declared.chosen.Chosen.{Chosen}
 use Rattle.like_promises.specs.declared.answer.Answer.{Answer}
 use Rattle.like_promises.specs.declared.place.Place.{Place}
 use Rattle.like_collection.proofs.Lists.{enumerate_from-append}
-use Rattle.like_replies.specs.PlaceRows.{page_place_rows, place_rows}
-use Rattle.like_replies.specs.Rows.{answer_rows, hot_row, hot_rows, hot_rows_below, liker_rows, page_row, page_rows, reply_row, reply_rows, rows_text, submitter_rows, user_row}
+use Rattle.like_replies.specs.PlaceRows.{place_row, place_rows}
+use Rattle.like_replies.specs.Rows.{answer_rows, hot_row, hot_rows, liker_rows, page_row, page_rows, reply_row, reply_rows, rows_text, user_row}
 
 -- the text of one more row
 pub rows_text-push : (rows : List (List (List ℕ))) (row : List (List ℕ))
@@ -57,20 +57,24 @@ liker_rows-append pages before last more =
 -- the rows of one more submitter
 pub reply_rows-push : (pages : List Page) (replies : List (List Answer)) (answers : List Answer)
     → reply_rows pages (replies ++ answers ∷ [])
-    ≡ reply_rows pages replies ++ submitter_rows pages (length replies) answers
+    ≡ reply_rows pages replies ++ answer_rows pages (length replies) 0 answers
 reply_rows-push pages replies answers =
     let e : enumerate_from 0 (replies ++ answers ∷ []) ≡ enumerate_from 0 replies ++ (length replies, answers) ∷ [] =
     simp (enumerate_from-append, zero-add) in
-    ap (flat_map (λ p. submitter_rows pages p.0 p.1)) e
-    ∙ flat_map-append (λ p. submitter_rows pages p.0 p.1) (enumerate_from 0 replies)
+    ap (flat_map (λ p. answer_rows pages p.0 0 p.1)) e
+    ∙ flat_map-append (λ p. answer_rows pages p.0 0 p.1) (enumerate_from 0 replies)
     ((length replies, answers) ∷ [])
-    ∙ ap (λ r. reply_rows pages replies ++ r) (append-nil (submitter_rows pages (length replies) answers))
+    ∙ ap (λ r. reply_rows pages replies ++ r) (append-nil (answer_rows pages (length replies) 0 answers))
 
 -- the rows of one more page, where it is hot and where it is not
 range-more : (a n : ℕ) → range_with_len a (n + 1) ≡ range_with_len a n ++ (a + n) ∷ []
 range-more a n =
     sym (map-id (range_with_len a (n + 1))) ∙ map-range_with_len_more (λ (k : ℕ). k) a n (a + n) refl
     ∙ ap (λ xs. xs ++ (a + n) ∷ []) (map-id (range_with_len a n))
+
+-- the rows of a phase's hot pages with numbers below this one
+abbrev pub hot_rows_below : List Page → Chosen → ℕ → List (List (List ℕ))
+hot_rows_below pages c below = map (hot_row pages c.phase) (filter (is_hot c.mask) (range_with_len 0 below))
 
 pub hot_rows-more : (pages : List Page) (c : Chosen) (page : ℕ)
     → hot_rows_below pages c (page + 1)
@@ -91,13 +95,13 @@ hot_rows-push pages hot c =
 
 -- the rows of the places of one more page
 pub place_rows-push : (pages : List Page) (rows : List (List Place)) (row : List Place)
-    → place_rows pages (rows ++ row ∷ []) ≡ place_rows pages rows ++ page_place_rows pages (length rows) row
+    → place_rows pages (rows ++ row ∷ []) ≡ place_rows pages rows ++ map (place_row pages (length rows)) row
 place_rows-push pages rows row =
     let e : enumerate_from 0 (rows ++ row ∷ []) ≡ enumerate_from 0 rows ++ (length rows, row) ∷ [] =
     simp (enumerate_from-append, zero-add) in
-    ap (flat_map (λ p. page_place_rows pages p.0 p.1)) e
-    ∙ flat_map-append (λ p. page_place_rows pages p.0 p.1) (enumerate_from 0 rows) ((length rows, row) ∷ [])
-    ∙ ap (λ r. place_rows pages rows ++ r) (append-nil (page_place_rows pages (length rows) row))
+    ap (flat_map (λ p. map (place_row pages p.0) p.1)) e
+    ∙ flat_map-append (λ p. map (place_row pages p.0) p.1) (enumerate_from 0 rows) ((length rows, row) ∷ [])
+    ∙ ap (λ r. place_rows pages rows ++ r) (append-nil (map (place_row pages (length rows)) row))
 
 -- one more row was added to a sheet
 pub AddsRow : (first sheet more : List ℕ) (rows : List (List (List ℕ))) (row : List (List ℕ))

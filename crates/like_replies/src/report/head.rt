@@ -1,6 +1,6 @@
-ghost use Rattle.std.specs.Prelude.{◌≡◌, ◌+◌, ◌<◌, ◌≤◌, ◌^◌, ◌++◌, length};
+ghost use Rattle.std.specs.Prelude.{◌≡◌, ◌+◌, ◌<◌, ◌≤◌, ◌^◌, ◌++◌, decimal, length};
 ghost use Rattle.arrayvec.specs.ArrayVec.{array_vec_len};
-ghost use Rattle.like_replies.specs.RowParts.{head_text};
+ghost use Rattle.csv.specs.Writing.{default_writer, field_text};
 
 use arrayvec::ArrayVec;
 use itoa::Buffer;
@@ -46,7 +46,7 @@ impl Head {
 
     /// The text.
     pub fn text(&self) -> &[u8]
-        ensures { result.now ≡ head_text self.now }
+        ensures { result.now ≡ self.now.start ++ field_text default_writer (decimal self.now.number) }
     {
         &self.text
     }

@@ -1,9 +1,10 @@
-ghost use Rattle.std.specs.Prelude.{◌≡◌, ◌<◌, ◌≤◌, ◌++◌, ℕ, List, OnOk, codes, length};
+ghost use Rattle.std.specs.Prelude.{◌≡◌, ◌≢◌, ◌<◌, ◌≤◌, ◌++◌, ℕ, List, OnOk, codes, length};
 ghost use Rattle.std.specs.Option.{ForSome};
 ghost use Rattle.csv.specs.Writing.{default_writer, field_text, row_text};
 ghost use Rattle.like_requests.specs.Pages.{Page};
+ghost use Rattle.like_requests.specs.declared.verdict.Verdict.TheVariants.{Accepted};
 ghost use Rattle.like_promises.specs.declared.reply.Reply.TheVariants.{Refused, Seen};
-ghost use Rattle.like_replies.specs.Rows.{IsAnswer, IsShowable, header_row, hot_row, name_of, page_row, reply_row, user_row};
+ghost use Rattle.like_replies.specs.Rows.{IsShowable, header_row, hot_row, name_of, page_row, reply_row, user_row};
 ghost use Rattle.like_replies.specs.PlaceRows.{place_row};
 ghost use Rattle.like_replies.specs.RowParts.{phase_text, place_start, reply_start, shown_text};
 
@@ -38,7 +39,7 @@ pub fn start_reply(submitter: u64) -> Label
 
 // What a refusal shows, and the end of its row.
 fn refusal(verdict: Verdict) -> &'static str
-    requires { IsAnswer (Refused verdict) }
+    requires { verdict ≢ Accepted }
     ensures { (pages : List Page) → result.now ≡ shown_text pages (Refused verdict) }
 {
     match verdict {

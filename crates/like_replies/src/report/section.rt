@@ -1,8 +1,10 @@
-ghost use Rattle.std.specs.Prelude.{◌≡◌, ◌<◌, ◌+◌, ◌^◌, ℕ, [], ◌∷◌, ◌++◌, All, OnOk, codes, length};
+ghost use Rattle.std.specs.Prelude.{◌≡◌, ◌<◌, ◌+◌, ◌^◌, ℕ, [], ◌∷◌, ◌++◌, All, OnOk, codes, filter, length, map};
+ghost use Rattle.std.specs.List.{range_with_len};
 ghost use Rattle.std.specs.Option.{ForSome};
-ghost use Rattle.like_replies.specs.PlaceRows.{page_place_rows};
+ghost use Rattle.like_core.specs.Phase.{is_hot};
+ghost use Rattle.like_replies.specs.PlaceRows.{place_row};
 ghost use Rattle.like_replies.specs.RowParts.{reply_start};
-ghost use Rattle.like_replies.specs.Rows.{IsShowable, answer_rows, hot_rows, hot_rows_below, liker_rows, page_rows, rows_text};
+ghost use Rattle.like_replies.specs.Rows.{IsShowable, answer_rows, hot_row, hot_rows, liker_rows, page_rows, rows_text};
 ghost use Rattle.like_replies.specs.Sections.{HasRows, section_rows};
 
 use crate::report::head::Head;
@@ -198,7 +200,8 @@ fn add_all_hot(sheet: &mut Sheet, names: &Names, hot: &[Chosen]) -> Result<(), A
 // Adds the rows of a phase's hot pages.
 fn add_chosen(sheet: &mut Sheet, names: &Names, chosen: Chosen) -> Result<(), AllocError>
     ensures { OnOk result (sheet.new ≡ sheet.old
-        ++ rows_text (hot_rows_below names.now chosen (length names.now))) }
+        ++ rows_text (map (hot_row names.now chosen.phase)
+        (filter (is_hot chosen.mask) (range_with_len 0 (length names.now))))) }
 {
     for page in 0..names.len() {
         if !is_hot(chosen.mask, page) {
@@ -218,7 +221,7 @@ fn add_places(
 ) -> Result<(), AllocError>
     requires { page < length names.now }
     ensures { OnOk result (sheet.new ≡ sheet.old
-        ++ rows_text (page_place_rows names.now page places.now)) }
+        ++ rows_text (map (place_row names.now page) places.now)) }
 {
     for place in places {
         add_place(sheet, names, page, place)?;

@@ -2,9 +2,9 @@ ghost use Rattle.std.specs.Prelude.{◌≡◌, ◌<◌, ◌++◌, ℕ, if◌then
 ghost use Rattle.std.specs.Option.{ForSome};
 ghost use Rattle.like_requests.specs.Pages.{Page};
 ghost use Rattle.like_promises.specs.places.Places.{lists_in};
-ghost use Rattle.like_replies.specs.PlaceRows.{page_place_rows, place_rows};
+ghost use Rattle.like_replies.specs.PlaceRows.{place_row, place_rows};
 ghost use Rattle.like_replies.specs.Reported.{shown_with};
-ghost use Rattle.like_replies.specs.Rows.{IsShowable, IsWritable, report_rows, submitter_rows, user_rows};
+ghost use Rattle.like_replies.specs.Rows.{IsShowable, IsWritable, answer_rows, liker_rows, report_rows};
 ghost use Rattle.like_replies.specs.Sections.{AreSections};
 
 use crate::report::section::Section;
@@ -79,7 +79,7 @@ fn push_answers<'a>(
     ensures { (pages : List Page) (rows : List (List (List ℕ)))
         → AreSections pages rows all.old.items
         → All (λ a. IsShowable pages a.reply) answers.now
-        → OnOk result (AreSections pages (rows ++ submitter_rows pages submitter answers.now) all.new.items) }
+        → OnOk result (AreSections pages (rows ++ answer_rows pages submitter 0 answers.now) all.new.items) }
 {
     let mut before = 0;
     for part in answers.chunks(SECTION_ROWS) {
@@ -98,7 +98,7 @@ fn push_users<'a>(all: &mut Vec<Section<'a>>, users: &'a [Option<u32>]) -> Resul
     ensures { (pages : List Page) (rows : List (List (List ℕ)))
         → AreSections pages rows all.old.items
         → All (λ last. ForSome last (λ page. page < length pages)) users.now
-        → OnOk result (AreSections pages (rows ++ user_rows pages users.now) all.new.items) }
+        → OnOk result (AreSections pages (rows ++ liker_rows pages 0 users.now) all.new.items) }
 {
     let mut before = 0;
     for part in users.chunks(SECTION_ROWS) {
@@ -117,7 +117,7 @@ fn push_places<'a>(
     ensures { (pages : List Page) (rows : List (List (List ℕ)))
         → AreSections pages rows all.old.items
         → page < length pages
-        → OnOk result (AreSections pages (rows ++ page_place_rows pages page places.now) all.new.items) }
+        → OnOk result (AreSections pages (rows ++ map (place_row pages page) places.now) all.new.items) }
 {
     for part in places.chunks(SECTION_ROWS) {
         all.push(Section::Places { page, places: part })?;

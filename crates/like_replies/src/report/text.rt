@@ -4,7 +4,7 @@ ghost use Rattle.like_promises.specs.places.Places.{lists_in};
 ghost use Rattle.like_replies.specs.Output.{TellsOutput, Writes};
 ghost use Rattle.like_replies.specs.PlaceRows.{place_rows, text_of};
 ghost use Rattle.like_replies.specs.Reported.{reported};
-ghost use Rattle.like_replies.specs.Rows.{IsWritable, report_text, rows_text};
+ghost use Rattle.like_replies.specs.Rows.{IsWritable, report_rows, rows_text};
 ghost use Rattle.like_replies.specs.declared.write_fault.WriteFault.TheVariants.{Memory};
 
 use crate::extent::Extent;
@@ -121,7 +121,7 @@ pub fn write_report<W: Output>(
 ) -> Result<(), WriteFault>
     requires { IsWritable pages.now (reported report.now) }
     ensures written { Writes (W.held out.old) (W.held out.new) result
-        (report_text pages.now (reported report.now)) }
+        (rows_text (report_rows pages.now (reported report.now))) }
     ensures flushed { OnOk result (W.is_flushed out.new) }
     ensures told { TellsOutput W.has_failed out.old out.new result }
 {

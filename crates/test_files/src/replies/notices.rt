@@ -1,6 +1,6 @@
 //! The line on refused requests.
 use crate::files::assert_bytes;
-use like_replies::{Notice, Refusals};
+use like_replies::{Notice, Summary};
 
 const LINE: &[u8] =
     b"likes: refused 2948303 of 2968476 requests: 2948303 unknown-user, 0 other-home, 0 unknown-page\n";
@@ -12,15 +12,20 @@ fn line() -> &'static [u8] {
 
 #[test]
 fn refused_requests(rt: HostRuntime) {
-    let refusals = Refusals {
+    let summary = Summary {
         requests: 2_968_476,
         refused: 2_948_303,
+        liked: 20_173,
+        seen: 0,
         unknown_user: 2_948_303,
         other_home: 0,
         unknown_page: 0,
+        phases: 1,
+        hot_phases: 0,
+        hot_pages: 0,
     };
     let mut out = Vec::new(rt.alloc());
-    Notice::Refused(refusals)
+    Notice::Refused(summary)
         .write(&mut out)
         .expect(&rt, "memory");
     assert_bytes(&rt, out, line());

@@ -1,18 +1,8 @@
-use Rattle.std.proofs.Common.{◌≡◌, ◌∷◌, ◌++◌, [], List, Ok, Vec, Global, map, ap, sym, ◌∙◌}
+use Rattle.std.proofs.Common.{◌∷◌, ◌++◌, [], ap, sym, ◌∙◌}
 use Rattle.std.proofs.lemmas.Iterator.Adapters.{YieldsList-from_vec}
 use Rattle.std.proofs.lemmas.Iterator.Consumers.{YieldsList-turn}
-use Rattle.std.proofs.lemmas.List.{map-append}
-use Rattle.like_requests.specs.declared.request.Request.{Request}
 use Rattle.like_collection.proofs.Lists.{take-more_taken}
-use Rattle.like_files.specs.Plans.{AddsPlan, Answer}
 use Rattle.like_files.proofs.plans.gather.Goals as goal
-
--- one more answer, which is a plan
-one_more : (answers : List Answer) (old new : List (Vec Request Global)) (answer : Answer) → answers ≡ map Ok old
-    → AddsPlan answer old new → answers ++ answer ∷ [] ≡ map Ok new
-one_more answers old new answer all adds =
-    (λ i. all i ++ adds.given i ∷ []) ∙ sym (map-append Ok old (adds.plan ∷ []))
-    ∙ sym (ap (λ (plans : List (Vec Request Global)). map Ok plans) adds.added)
 
 pub loop-answer-preserved : goal.loop-answer-preserved
 loop-answer-preserved c =
@@ -22,7 +12,6 @@ loop-answer-preserved c =
     (from.1 ∙ c.args.answers.ok.0) in
     let turn = YieldsList-turn all l.yielded _ l.yielded_by _ c.next.new.self c.in-Some.answer c.in-Some.is
     c.next.ensures.steps in (
-      one_more l.yielded l.plans.items c.add_plan.new.plans.items c.in-Some.answer l.invariant.0
-          c.in_ok-add_plan.ensures.added,
+      ap (λ answers. answers ++ c.in-Some.answer ∷ []) l.invariant.0 ∙ sym c.in_ok-add_plan.ensures.added,
       take-more_taken c.args.answers.items l.yielded c.in-Some.answer l.invariant.1 turn.0 turn.1,
     )

@@ -2,7 +2,6 @@ use Rattle.std.proofs.Common.{refl, map, inl}
 use Rattle.std.proofs.lemmas.Result.{err_from_is_err_and}
 use Rattle.like_files.specs.Inputs.{inputs_in}
 use Rattle.like_files.proofs.Ended.{lists-refused}
-use Rattle.like_files.proofs.FailedReads.{plans-told}
 use Rattle.like_files.proofs.replay.replay_opened.Goals as goal
 
 pub returns-in_err-pages-clause-replayed : goal.returns-in_err-pages-clause-replayed
@@ -30,14 +29,12 @@ pub returns-in_err-plans-clause-read : goal.returns-in_err-plans-clause-read
 returns-in_err-plans-clause-read g c =
     let p = err_from_is_err_and c.from_residual-in_err-plans.result c.from_residual-in_err-plans.ensures.1 in
     rw (p.1, p.2)
-    (plans-told c.args.files.pages c.args.files.requests.items c.args.files.script c.in_ok-pages.pages
-    (map g.R.Read.remaining c.args.files.requests.items) c.in_err-plans.field-0.0 c.in_err-plans.ensures.plans
-    c.in_err-plans.ensures.read)
+    (c.in_err-plans.ensures.read c.args.files.pages c.args.files.script)
 
 pub returns-clause-replayed : goal.returns-clause-replayed
 returns-clause-replayed g c =
     c.replay_read.ensures.replayed (inputs_in g.R.Read.remaining c.args.files)
-    (record { pages_given = c.in_ok-pages.ensures.file; plans_given = c.in_ok-plans.ensures.plans }) refl
+    c.in_ok-pages.ensures.file c.in_ok-plans.ensures.plans refl
 
 pub returns-clause-read : goal.returns-clause-read
 returns-clause-read g c = c.replay_read.ensures.read c.args.files.pages c.args.files.requests.items

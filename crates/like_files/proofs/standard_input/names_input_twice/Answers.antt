@@ -1,9 +1,10 @@
 use Rattle.std.proofs.Common.{◌≡◌, ◌∙◌, ◌||◌, ◌&&◌, ◌++◌, ◌∷◌, ℕ, List, [], ap, arith, length, map, sym, take}
-use Rattle.std.specs.Prelude.{Bool, String, string_bytes}
+use Rattle.std.specs.Prelude.{Bool, String, option_map, string_bytes}
+use Rattle.std.specs.Option.{option_to_list}
 use Rattle.std.specs.declared.alloc.Global.{Global}
 use Rattle.std.proofs.Math.Seq.{take-length}
 use Rattle.like_command.specs.declared.options.Options.{Options}
-use Rattle.like_files.specs.StandardInput.{is_input, names_twice, script_names}
+use Rattle.like_files.specs.StandardInput.{is_input, names_twice}
 use Rattle.like_files.proofs.StandardInput.{looked-more, names_before, next-before}
 use Rattle.like_files.proofs.standard_input.names_input_twice.Goals as goal
 
@@ -34,4 +35,4 @@ returns-in-Some c =
     ap (λ (b : Bool). c.loop-name.is_twice || (c.loop-name.is_named && b)) given ∙ (known.twice
     ∙ (ap (λ (xs : List (String Global)).
     names_twice (string_bytes options.pages ∷ map string_bytes xs ++ string_bytes c.in-Some.name ∷ [])) all
-    ∙ sym (ap (λ s. names_twice (string_bytes options.pages ∷ map string_bytes items ++ script_names s)) c.in-Some.is)))
+    ∙ sym (ap (λ s. names_twice (string_bytes options.pages ∷ map string_bytes items ++ option_to_list (option_map string_bytes s))) c.in-Some.is)))

@@ -1,7 +1,8 @@
+use Rattle.std.proofs.Common.{[]}
 use Rattle.std.proofs.lemmas.Result.{IfOk-weaker}
 use Rattle.like_files.specs.Inputs.{BeginsReportOf}
 use Rattle.like_files.specs.Replay.{HasReplayed}
-use Rattle.like_program.specs.Program.{HasReplayedExample, example_inputs}
+use Rattle.like_program.specs.Program.{HasServed, example_inputs}
 use Rattle.like_program.proofs.Serving.{begins-at_most, files-not_replayed, of_files-ok, of_files-told}
 use Rattle.like_program.proofs.example.replay_example.Goals as goal
 
@@ -15,9 +16,9 @@ returns-clause-replayed g c =
     let replayed = rw (c.as_bytes-pages.ensures.value, c.in_ok-requests.ensures)
     at c.replay_opened-done.ensures.replayed.done in
     rw c.with_options.ensures
-    (of_files-ok (HasReplayedExample old new) options done
-    (IfOk-weaker done (HasReplayed options example_inputs old new) (HasReplayedExample old new)
-    (λ notice h. record { options = options; numbers = numbers; replayed = h }) replayed))
+    (of_files-ok (HasServed [] old new) options done
+    (IfOk-weaker done (HasReplayed options example_inputs old new) (HasServed [] old new)
+    (λ notice h. (options, numbers, h)) replayed))
 
 pub returns-clause-fault : goal.returns-clause-fault
 returns-clause-fault g c =

@@ -1,6 +1,8 @@
 use Rattle.std.proofs.Common.{inl, refl}
 use Rattle.std.proofs.lemmas.Result.{IfOk-weaker, err_from_is_err_and}
-use Rattle.like_program.proofs.NamedFiles.{named-begun, replay-refused}
+use Rattle.like_files.specs.Inputs.{inputs_in}
+use Rattle.like_files.specs.Replay.{IsReplayFilesFault}
+use Rattle.like_program.proofs.NamedFiles.{files-refused, named-begun}
 use Rattle.like_program.proofs.named.replay_named.Goals as goal
 
 pub returns-in_err-files-clause-replayed : goal.returns-in_err-files-clause-replayed
@@ -14,9 +16,10 @@ returns-clause-replayed g c = record {
       c.replay_opened.result _ _
       (λ notice done. record { opened = c.in_ok-files.files; named = c.in_ok-files.ensures; holds = done })
       c.replay_opened.ensures.replayed.done;
-  fault = replay-refused
+  fault = files-refused
       g.O.Reader.Read.remaining (g.O.Opener.tries c.args.opener.now) (g.O.Opener.tries c.open_files.new.opener)
-      c.args.options.now c.in_ok-files.files c.in_ok-files.ensures c.replay_opened.result
+      c.args.options.now c.in_ok-files.files c.in_ok-files.ensures
+      (λ files. IsReplayFilesFault c.args.options.now (inputs_in g.O.Reader.Read.remaining files)) c.replay_opened.result
       c.replay_opened.ensures.replayed.fault c.replay_opened.ensures.read;
   untouched = c.replay_opened.ensures.replayed.untouched;
 }

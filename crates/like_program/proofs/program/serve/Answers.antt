@@ -3,9 +3,8 @@ use Rattle.std.proofs.lemmas.Result.{IfErr-weaker, IfOk-weaker, err_from_is_err_
 use Rattle.like_command.specs.Asked.{Words}
 use Rattle.like_command.specs.declared.asked.Asked.TheVariants.{Run, Replay, Help}
 use Rattle.like_program.specs.declared.fault.ProgramFault.TheVariants as program
-use Rattle.like_program.specs.Program.{BeginsSome}
 use Rattle.like_program.proofs.NamedFiles.{some-begun, some-replay, some-replay-fault, some-run, some-run-fault}
-use Rattle.like_program.proofs.Serving.{begins-at_most, files-not_served, not_served, of_files-ok, served, some-words}
+use Rattle.like_program.proofs.Serving.{BeginsSome, begins-at_most, files-not_served, not_served, of_files-ok, served, some-words}
 use Rattle.like_program.proofs.program.serve.Goals as goal
 
 pub returns-in_err-options-clause-fault : goal.returns-in_err-options-clause-fault

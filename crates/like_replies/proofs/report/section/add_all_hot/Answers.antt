@@ -1,8 +1,8 @@
 use Rattle.std.proofs.Common.{length, get_or, take}
 use Rattle.std.proofs.lemmas.List.{take_all, take_more}
 use Rattle.like_promises.specs.declared.chosen.Chosen.{Chosen}
-use Rattle.like_replies.specs.Rows.{hot_rows, hot_rows_below}
-use Rattle.like_replies.proofs.rows.Texts.{AddsRows, hot_rows-push}
+use Rattle.like_replies.specs.Rows.{hot_rows}
+use Rattle.like_replies.proofs.rows.Texts.{AddsRows, hot_rows-push, hot_rows_below}
 use Rattle.like_replies.proofs.report.section.add_all_hot.Goals as goal
 
 -- what stands past the end of the hot pages

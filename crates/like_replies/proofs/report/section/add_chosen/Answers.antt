@@ -1,6 +1,6 @@
 use Rattle.std.proofs.Common.{[], ◌∷◌, ◌++◌, cond, map, append-nil, sym, ap, ◌∙◌}
-use Rattle.like_replies.specs.Rows.{hot_row, hot_rows_below}
-use Rattle.like_replies.proofs.rows.Texts.{AddsRow, hot_rows-more}
+use Rattle.like_replies.specs.Rows.{hot_row}
+use Rattle.like_replies.proofs.rows.Texts.{AddsRow, hot_rows-more, hot_rows_below}
 use Rattle.like_replies.proofs.report.section.add_chosen.Goals as goal
 
 pub loop-page-preserved : goal.loop-page-preserved

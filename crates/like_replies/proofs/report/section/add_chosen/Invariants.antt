@@ -1,5 +1,6 @@
 use Rattle.std.proofs.Common.{◌≡◌, ◌++◌}
-use Rattle.like_replies.specs.Rows.{hot_rows_below, rows_text}
+use Rattle.like_replies.specs.Rows.{rows_text}
+use Rattle.like_replies.proofs.rows.Texts.{hot_rows_below}
 use Rattle.like_replies.proofs.report.section.add_chosen.Given as goal
 
 abbrev pub invariant-loop-page : goal.invariant-loop-page

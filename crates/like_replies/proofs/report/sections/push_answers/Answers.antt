@@ -3,7 +3,7 @@ use Rattle.std.specs.Slice.Iter.{chunks_rest}
 use Rattle.like_promises.specs.declared.answer.Answer.{Answer}
 use Rattle.like_replies.specs.declared.report.section.Section.{Section}
 use Rattle.like_replies.specs.declared.report.section.Section.TheVariants.{Answers}
-use Rattle.like_replies.specs.Rows.{IsShowable, answer_rows, submitter_rows}
+use Rattle.like_replies.specs.Rows.{IsShowable, answer_rows}
 use Rattle.like_replies.specs.Sections.{HasRows}
 use Rattle.like_replies.proofs.Sections.{All-part, AreSections-push}
 use Rattle.like_replies.proofs.rows.Texts.{answer_rows-append}
@@ -46,13 +46,13 @@ loop-part-preserved c =
       λ pages rows are shown.
           let has : HasRows pages section =
           (room, All-part (λ a. IsShowable pages a.reply) done part rest (rw (← whole) shown)) in
-          let more : rows ++ submitter_rows pages submitter (done ++ part)
-          ≡ (rows ++ submitter_rows pages submitter done) ++ answer_rows pages submitter before part =
+          let more : rows ++ answer_rows pages submitter 0 (done ++ part)
+          ≡ (rows ++ answer_rows pages submitter 0 done) ++ answer_rows pages submitter before part =
           ap (λ r. rows ++ r)
           (answer_rows-append pages submitter 0 done part
-          ∙ ap (λ n. submitter_rows pages submitter done ++ answer_rows pages submitter n part) number)
-          ∙ sym (append_assoc rows (submitter_rows pages submitter done) (answer_rows pages submitter before part)) in
+          ∙ ap (λ n. answer_rows pages submitter 0 done ++ answer_rows pages submitter n part) number)
+          ∙ sym (append_assoc rows (answer_rows pages submitter 0 done) (answer_rows pages submitter before part)) in
           rw (c.in_ok-push.ensures.items, more)
-          (AreSections-push pages (rows ++ submitter_rows pages submitter done) c.loop-part.all.items section
+          (AreSections-push pages (rows ++ answer_rows pages submitter 0 done) c.loop-part.all.items section
           (c.loop-part.invariant.5 pages rows are shown) has),
     )

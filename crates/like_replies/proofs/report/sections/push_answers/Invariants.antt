@@ -2,7 +2,7 @@ use Rattle.std.proofs.Common.{◌≡◌, ◌++◌, ℕ, All, List, length}
 use Rattle.std.specs.Slice.Iter.{chunks_rest}
 use Rattle.like_requests.specs.Pages.{Page}
 use Rattle.like_promises.specs.declared.answer.Answer.{Answer}
-use Rattle.like_replies.specs.Rows.{IsShowable, submitter_rows}
+use Rattle.like_replies.specs.Rows.{IsShowable, answer_rows}
 use Rattle.like_replies.specs.Sections.{AreSections}
 use Rattle.like_replies.proofs.report.sections.push_answers.Given as goal
 
@@ -12,4 +12,4 @@ invariant-loop-part l =
     × (done : List Answer) × (l.answers ≡ done ++ chunks_rest l.part-iterator) × (l.before ≡ length done)
     × ((pages : List Page) (rows : List (List (List ℕ))) → AreSections pages rows l.initial.all.items
     → All (λ a. IsShowable pages a.reply) l.answers
-    → AreSections pages (rows ++ submitter_rows pages l.submitter done) l.all.items)
+    → AreSections pages (rows ++ answer_rows pages l.submitter 0 done) l.all.items)

@@ -1,9 +1,9 @@
-use Rattle.std.proofs.Common.{◌≡◌, ◌++◌, ◌∙◌, List, sym, ap, append_assoc}
+use Rattle.std.proofs.Common.{◌≡◌, ◌++◌, ◌∙◌, List, sym, ap, append_assoc, map}
 use Rattle.std.proofs.lemmas.List.{map-append}
 use Rattle.std.specs.Slice.Iter.{chunks_rest}
 use Rattle.like_promises.specs.declared.place.Place.{Place}
 use Rattle.like_replies.specs.declared.report.section.Section.TheVariants.{Places}
-use Rattle.like_replies.specs.PlaceRows.{page_place_rows, place_row}
+use Rattle.like_replies.specs.PlaceRows.{place_row}
 use Rattle.like_replies.proofs.Sections.{AreSections-push}
 use Rattle.like_replies.proofs.report.sections.push_places.Goals as goal
 
@@ -20,11 +20,11 @@ loop-part-preserved c =
       done ++ part,
       whole ∙ sym (append_assoc done part rest),
       λ pages rows are there.
-          let more : rows ++ page_place_rows pages page (done ++ part)
-          ≡ (rows ++ page_place_rows pages page done) ++ page_place_rows pages page part =
+          let more : rows ++ map (place_row pages page) (done ++ part)
+          ≡ (rows ++ map (place_row pages page) done) ++ map (place_row pages page) part =
           ap (λ r. rows ++ r) (map-append (place_row pages page) done part)
-          ∙ sym (append_assoc rows (page_place_rows pages page done) (page_place_rows pages page part)) in
+          ∙ sym (append_assoc rows (map (place_row pages page) done) (map (place_row pages page) part)) in
           rw (c.in_ok-push.ensures.items, more)
-          (AreSections-push pages (rows ++ page_place_rows pages page done) c.loop-part.all.items
+          (AreSections-push pages (rows ++ map (place_row pages page) done) c.loop-part.all.items
           (Places page c.in-Some.part) (c.loop-part.invariant.4 pages rows are there) there),
     )

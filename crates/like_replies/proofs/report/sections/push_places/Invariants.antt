@@ -1,8 +1,8 @@
-use Rattle.std.proofs.Common.{◌≡◌, ◌<◌, ◌++◌, ℕ, List, length}
+use Rattle.std.proofs.Common.{◌≡◌, ◌<◌, ◌++◌, ℕ, List, length, map}
 use Rattle.std.specs.Slice.Iter.{chunks_rest}
 use Rattle.like_requests.specs.Pages.{Page}
 use Rattle.like_promises.specs.declared.place.Place.{Place}
-use Rattle.like_replies.specs.PlaceRows.{page_place_rows}
+use Rattle.like_replies.specs.PlaceRows.{place_row}
 use Rattle.like_replies.specs.Sections.{AreSections}
 use Rattle.like_replies.proofs.report.sections.push_places.Given as goal
 
@@ -12,4 +12,4 @@ invariant-loop-part l =
     × (done : List Place) × (l.places ≡ done ++ chunks_rest l.part-iterator)
     × ((pages : List Page) (rows : List (List (List ℕ))) → AreSections pages rows l.initial.all.items
     → l.page < length pages
-    → AreSections pages (rows ++ page_place_rows pages l.page done) l.all.items)
+    → AreSections pages (rows ++ map (place_row pages l.page) done) l.all.items)

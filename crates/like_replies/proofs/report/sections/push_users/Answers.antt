@@ -3,7 +3,7 @@ use Rattle.std.specs.Option.{ForSome}
 use Rattle.std.specs.Slice.Iter.{chunks_rest}
 use Rattle.like_replies.specs.declared.report.section.Section.{Section}
 use Rattle.like_replies.specs.declared.report.section.Section.TheVariants.{Users}
-use Rattle.like_replies.specs.Rows.{liker_rows, user_rows}
+use Rattle.like_replies.specs.Rows.{liker_rows}
 use Rattle.like_replies.specs.Sections.{HasRows}
 use Rattle.like_replies.proofs.Sections.{All-part, AreSections-push}
 use Rattle.like_replies.proofs.rows.Texts.{liker_rows-append}
@@ -48,12 +48,12 @@ loop-part-preserved c =
             All-part (λ last. ForSome last (λ page. page < length pages)) done part rest
                 (rw (← whole) there),
           ) in
-          let more : rows ++ user_rows pages (done ++ part)
-          ≡ (rows ++ user_rows pages done) ++ liker_rows pages before part =
+          let more : rows ++ liker_rows pages 0 (done ++ part)
+          ≡ (rows ++ liker_rows pages 0 done) ++ liker_rows pages before part =
           ap (λ r. rows ++ r)
-          (liker_rows-append pages 0 done part ∙ ap (λ n. user_rows pages done ++ liker_rows pages n part) number)
-          ∙ sym (append_assoc rows (user_rows pages done) (liker_rows pages before part)) in
+          (liker_rows-append pages 0 done part ∙ ap (λ n. liker_rows pages 0 done ++ liker_rows pages n part) number)
+          ∙ sym (append_assoc rows (liker_rows pages 0 done) (liker_rows pages before part)) in
           rw (c.in_ok-push.ensures.items, more)
-          (AreSections-push pages (rows ++ user_rows pages done) c.loop-part.all.items section
+          (AreSections-push pages (rows ++ liker_rows pages 0 done) c.loop-part.all.items section
           (c.loop-part.invariant.5 pages rows are there) has),
     )

@@ -3,7 +3,7 @@ use Rattle.std.proofs.lemmas.List.{length-map, length-take-le, map-append, take_
 use Rattle.std.specs.Option.{ForSome}
 use Rattle.like_promises.specs.declared.answer.Answer.{Answer}
 use Rattle.like_replies.specs.declared.report.section.Section.TheVariants.{Counts, Hot}
-use Rattle.like_replies.specs.Rows.{IsShowable, header_row, hot_rows, page_rows, reply_rows, user_rows}
+use Rattle.like_replies.specs.Rows.{IsShowable, header_row, hot_rows, liker_rows, page_rows, reply_rows}
 use Rattle.like_replies.specs.Sections.{AreSections}
 use Rattle.like_replies.proofs.Sections.{AreSections-push}
 use Rattle.like_replies.proofs.rows.Texts.{All-image, reply_rows-push}
@@ -40,7 +40,7 @@ returns c = λ pages writable.
     let whole : take c.loop-submitter.submitter rows ≡ rows = take_all c.loop-submitter.submitter rows past in
     let replies = header_row ∷ reply_rows pages (map answers_in rows) in
     let counts = replies ++ page_rows pages c.deref-2.result.now in
-    let users = counts ++ user_rows pages c.deref-3.result.now in
+    let users = counts ++ liker_rows pages 0 c.deref-3.result.now in
     let counted : length c.deref-2.result.now ≡ length pages = rw c.deref-2.ensures.value writable.counted in
     let liked : All (λ last. ForSome last (λ page. page < length pages)) c.deref-3.result.now =
     rw c.deref-3.ensures.value writable.liked in

@@ -1,6 +1,9 @@
 use Rattle.std.proofs.Common.{codes}
-use Rattle.like_replies.proofs.Summed.{answered-fits}
+use Rattle.like_replies.proofs.Summed.{answered-fits, refused-fits}
 use Rattle.like_replies.proofs.summary.Summary.of.Goals as goal
+
+pub refused_in-requires : goal.refused_in-requires
+refused_in-requires c = refused-fits c.args.report.now.replies c.requires
 
 pub answered-requires : goal.answered-requires
 answered-requires c = answered-fits (codes "liked") c.args.report.now.replies c.requires

@@ -12,7 +12,7 @@ items_of row = row.items
 pub returns : goal.returns
 returns g c pages =
     let Shown : Answer → Type 0 = λ a. IsShowable pages a.reply in
-    let shown : Shown c.answer.result = rw c.answer.ensures (record { there = tt; answer = tt }) in
+    let shown : Shown c.answer.result = rw c.answer.ensures tt in
     let many = replicate c.args.count c.answer.result in
     let answers : c.expect-answers.result.items ≡ many =
     subst (λ r. IfOk r (λ v. ((y : Answer) → y ≡ c.answer.result → y ≡ c.answer.result) → v.items ≡ many))

@@ -3,7 +3,8 @@ use Rattle.std.proofs.lemmas.List.{take_all}
 use Rattle.like_promises.specs.declared.reply.Reply.TheVariants.{Liked}
 use Rattle.like_promises.specs.declared.answer.Answer.{Answer}
 use Rattle.like_collection.specs.declared.collect_fault.CollectFault.TheVariants.{Missing}
-use Rattle.like_collection.specs.Slots.{IsFirstEmpty, IsSlotsFault, answers_there}
+use Rattle.like_collection.specs.Entries.{IsLeast}
+use Rattle.like_collection.specs.Slots.{IsSlot, IsSlotsFault, answers_there, slot_at}
 use Rattle.like_collection.proofs.slots.Empty.{first_of_row}
 use Rattle.like_collection.proofs.slots.There.{get_or-there, length-there, take-there}
 use Rattle.like_collection.proofs.collection.slot_row.SlotRow.into_answers.Goals as goal
@@ -62,8 +63,12 @@ returns-then-not-is_there c =
     let first = first_of_row (answers_there there answers) place (take place answers)
     (omega (arith, size, within)) empty c.loop-place.invariant in
     subst (λ (row : List (Option Answer)). IsSlotsFault c.args.submitter (row ∷ [])
-    (Missing c.args.submitter (place + 1))) whole
-    (0, omega arith, subst (IsFirstEmpty (answers_there there answers ∷ []) 0) (sym (add-one place)) first)
+    (Missing c.args.submitter (place + 1))) whole (
+      0,
+      omega arith,
+      subst (IsLeast (IsSlot (answers_there there answers ∷ []))
+          (λ s m. slot_at (answers_there there answers ∷ []) s m ≡ None) 0) (sym (add-one place)) first,
+    )
 
 pub returns : goal.returns
 returns c =

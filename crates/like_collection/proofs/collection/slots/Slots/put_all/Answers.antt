@@ -4,8 +4,7 @@ use Rattle.like_promises.specs.declared.log.Ran.{Ran}
 use Rattle.like_promises.specs.declared.reply.Reply.TheVariants.{Liked}
 use Rattle.like_collection.specs.CollectFaults.{IsEntryFault}
 use Rattle.like_collection.specs.Slots.{HoldsAll}
-use Rattle.like_collection.proofs.slots.Collecting.{IsEntryFault-refused}
-use Rattle.like_collection.proofs.slots.Holding.{HoldsAll-put}
+use Rattle.like_collection.proofs.slots.Collecting.{IsEntryFault-longer}
 use Rattle.like_collection.proofs.Lists.{parts_at}
 use Rattle.like_collection.proofs.collection.slots.Slots.put_all.Goals as goal
 
@@ -18,13 +17,15 @@ returns-in_err-put c = λ sizes before held.
     let i = c.loop-entry.entry-index in
     let ran = c.args.ran.now in
     let e = get_or ran i past in
-    let parts : before ++ ran ≡ (before ++ take i ran) ++ e ∷ drop (i + 1) ran =
+    let done = before ++ take i ran in
+    let parts : before ++ ran ≡ (done ++ e ∷ []) ++ drop (i + 1) ran =
     ap (λ (r : List Ran). before ++ r) (parts_at ran i past c.loop-entry-test.true)
     ∙ sym (append_assoc before (take i ran) (e ∷ drop (i + 1) ran))
+    ∙ sym (append_assoc done (e ∷ []) (drop (i + 1) ran))
     in
     let fault : IsEntryFault sizes (before ++ ran) c.in_err-put.field-0.0 =
-    IsEntryFault-refused sizes (before ++ take i ran) c.loop-entry.self e (drop (i + 1) ran)
-    (before ++ ran) c.in_err-put.field-0.0 (c.loop-entry.invariant sizes before held) parts c.in_err-put.ensures
+    IsEntryFault-longer sizes (done ++ e ∷ []) (drop (i + 1) ran) (before ++ ran) c.in_err-put.field-0.0 parts
+    (c.in_err-put.ensures sizes done (c.loop-entry.invariant sizes before held))
     in search (rules, fault)
 
 pub loop-entry-preserved : goal.loop-entry-preserved
@@ -36,9 +37,7 @@ loop-entry-preserved c = λ sizes before held.
     ap (λ (r : List Ran). before ++ r) (take_more ran i past c.loop-entry-test.true)
     ∙ sym (append_assoc before (take i ran) (e ∷ []))
     in
-    let held_more =
-    HoldsAll-put sizes (before ++ take i ran) c.loop-entry.self e c.put.new.self
-    (c.loop-entry.invariant sizes before held) c.in_ok-put.ensures in
+    let held_more = c.in_ok-put.ensures sizes (before ++ take i ran) (c.loop-entry.invariant sizes before held) in
     subst (λ (l : List Ran). HoldsAll sizes l c.put.new.self) (sym more) held_more
 
 pub returns : goal.returns

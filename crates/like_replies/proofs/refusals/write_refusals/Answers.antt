@@ -3,11 +3,11 @@ use Rattle.std.proofs.KnownBytes.{Appends-trans}
 use Rattle.std.proofs.lemmas.Result.{on_ok_weaker}
 use Rattle.std.specs.Prelude.{◌++◌}
 use Rattle.like_replies.specs.Refusals.{kind_text, refused_text}
-use Rattle.like_replies.proofs.refusals.Refusals.write.Goals as goal
+use Rattle.like_replies.proofs.refusals.write_refusals.Goals as goal
 
 pub returns : goal.returns
 returns g c =
-    let r = c.args.self.now in
+    let r = c.args.summary.now in
     let at0 = g.W.Write.contents c.args.out.now in
     let at1 = g.W.Write.contents c.write_refused.new.out in
     let at2 = g.W.Write.contents c.write_kind.new.out in
