@@ -1,4 +1,5 @@
 -- The functions of handles, for each type that they hold, and what rows tell of the answers written in them.
+pub mod Asking
 pub mod Handle
 pub mod Homes
 pub mod Owners

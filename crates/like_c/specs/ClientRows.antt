@@ -5,15 +5,16 @@ use Rattle.like_c.specs.declared.boxed_client.BoxedClient.{BoxedClient}
 use Rattle.like_c.specs.declared.rows.AnswerRow.{AnswerRow}
 use Rattle.like_c.specs.declared.rows.RequestRow.{RequestRow}
 use Rattle.like_c.specs.Clients.{Calls}
-use Rattle.like_c.specs.Held.{At, with_first}
+use Rattle.like_c.specs.Asks.{At}
+use Rattle.like_c.specs.Held.{with_first}
 use Rattle.like_c.specs.Rows.{call_of, row_of}
-use Rattle.like_c.specs.Status as status
+use Rattle.like_c.specs.Status.{empty, status}
 use Rattle.like_c.specs.Told.{deeds_of_requests}
 
 -- the first request, if there is one, is told this status
 abbrev pub with_refused : ℕ → List RequestRow → List AnswerRow → List AnswerRow
-with_refused status [] rows = rows
-with_refused status (request ∷ requests) rows = with_first status rows
+with_refused why [] rows = rows
+with_refused why (request ∷ requests) rows = with_first why rows
 
 -- what is written of requests: so many were done, and each is told its answer; or none was, and the first is told why
 abbrev pub TellsRequests : List RequestRow → List AnswerRow → List AnswerRow → ℕ → Result ℕ ℕ → Type 0
@@ -30,5 +31,5 @@ RunsRequests seat b requests old rows done c =
 abbrev pub ClientRuns :
     ℕ → Option BoxedClient → List RequestRow → List AnswerRow → List AnswerRow → ℕ → Option BoxedClient → Type 0
 ClientRuns seat at requests old rows done after =
-    At ((done ≡ 0) × (rows ≡ with_first status.empty old))
+    At ((done ≡ 0) × (rows ≡ with_first (status empty) old))
     (λ b c. RunsRequests seat b requests old rows done c) at after

@@ -7,7 +7,7 @@ use Rattle.like_live.specs.Service.{AreGone, AreItsSeats, IsClosedService}
 use Rattle.like_c.specs.declared.opened.BoxedSeat.{BoxedSeat}
 use Rattle.like_c.specs.declared.opened.Opened.{Opened}
 use Rattle.like_c.specs.declared.seat_handle.SeatHandle.{SeatHandle}
-use Rattle.like_c.specs.Status as status
+use Rattle.like_c.specs.Status.{counted, empty, not_ended, status, wrong_pages, wrong_seats}
 
 -- what a handle holds
 abbrev pub home_of : SeatHandle → Option BoxedSeat
@@ -35,17 +35,17 @@ HoldItsSeats at handles =
 -- why a service can't be closed with the seat in this handle: it is empty; its seat isn't gone; or that isn't the
 -- driver's seat in this place, which no clause can tell
 pub data PreventsEnd (h : SeatHandle) (result : ℕ) : Type 0 where
-  is_empty : h.home ≡ None → result ≡ status.empty → PreventsEnd h result
-  is_there : (b : BoxedSeat) → h.home ≡ Some b → b.live.station.post.state ≢ Gone → result ≡ status.not_ended
+  is_empty : h.home ≡ None → result ≡ status empty → PreventsEnd h result
+  is_there : (b : BoxedSeat) → h.home ≡ Some b → b.live.station.post.state ≢ Gone → result ≡ status not_ended
       → PreventsEnd h result
-  is_other : result ≡ status.wrong_seats → PreventsEnd h result
+  is_other : result ≡ status wrong_seats → PreventsEnd h result
 
 -- why a service can't be closed with the seats in these handles: the first that prevents it, or they aren't as many as
 -- the driver's, for which there is room
 pub data PreventEnd (o : Opened) (handles : List SeatHandle) (result : ℕ) : Type 0 where
   one_prevents : (i : ℕ) (h : SeatHandle) → All HoldsGone (take i handles) → slice_get handles i ≡ Some h
       → PreventsEnd h result → PreventEnd o handles result
-  not_as_many : length handles ≢ vec_capacity o.back → result ≡ status.wrong_seats → PreventEnd o handles result
+  not_as_many : length handles ≢ vec_capacity o.back → result ≡ status wrong_seats → PreventEnd o handles result
 
 -- nothing is done: the counts are as they were, and each handle holds what it held
 pub record StaysOpen (at after : Option Opened) (handles left : List SeatHandle) (old counts : List ℕ) : Type 0 where
@@ -58,14 +58,14 @@ pub record StaysOpen (at after : Option Opened) (handles left : List SeatHandle)
 -- seats prevent it
 pub data ClosesAt (at : Option Opened) (handles : List SeatHandle) (old : List ℕ) (result : ℕ) (counts : List ℕ)
     (after : Option Opened) (left : List SeatHandle) : Type 0 where
-  close_empty : at ≡ None → result ≡ status.empty → StaysOpen at after handles left old counts
+  close_empty : at ≡ None → result ≡ status empty → StaysOpen at after handles left old counts
       → ClosesAt at handles old result counts after left
   close_pages : (o : Opened) → at ≡ Some o → length old ≢ length o.driver.lead.seat.opening.counts
-      → result ≡ status.wrong_pages → StaysOpen at after handles left old counts
+      → result ≡ status wrong_pages → StaysOpen at after handles left old counts
       → ClosesAt at handles old result counts after left
   close_prevented : (o : Opened) → at ≡ Some o → length old ≡ length o.driver.lead.seat.opening.counts
       → PreventEnd o handles result → StaysOpen at after handles left old counts
       → ClosesAt at handles old result counts after left
   closes : (o : Opened) (seats : List LiveView) → at ≡ Some o → AreHeldBy handles seats → AreGone seats
-      → IsClosedService o.driver seats counts → result ≡ status.counted → after ≡ None
+      → IsClosedService o.driver seats counts → result ≡ status counted → after ≡ None
       → All (λ h. h.home ≡ None) left → ClosesAt at handles old result counts after left

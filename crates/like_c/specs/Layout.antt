@@ -16,15 +16,11 @@ use Rattle.like_c.specs.declared.rows.FoundRow.{FoundRow}
 use Rattle.like_c.specs.declared.rows.Options.{Options}
 use Rattle.like_c.specs.declared.rows.RequestRow.{RequestRow}
 
--- field k of the type begins at this place
-pub record Begins (type : RattleType) (k place : ℕ) : Type 0 where
-  pub field : Ty
-  pub there : field_of (lone type.mir) k ≡ some (field, place)
-
 -- the fields of the type from field k on begin at these places, and it has no others
 abbrev pub HasPlaces : RattleType → ℕ → List ℕ → Type 0
 HasPlaces type k [] = field_of (lone type.mir) k ≡ none
-HasPlaces type k (place ∷ places) = Begins type k place × HasPlaces type (k + 1) places
+HasPlaces type k (place ∷ places) =
+    ((field : Ty) × (field_of (lone type.mir) k ≡ some (field, place))) × HasPlaces type (k + 1) places
 
 -- these are the fields of each, from the first one on, and their places
 pub record AreLaidOut : Type 0 where

@@ -1,12 +1,11 @@
 -- What crosses to C: handles, rows and statuses, and what likes.h tells of each call.
-pub mod Cards
+pub mod Asks
 pub mod ClientRows
 pub mod Clients
 pub mod Closes
 pub mod Handle
 pub mod Held
 pub mod Layout
-pub mod Lends
 pub mod Opened
 pub mod Rows
 pub mod Sharing

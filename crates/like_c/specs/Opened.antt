@@ -1,8 +1,9 @@
 -- What a service is opened with from C.
-use Rattle.std.specs.Prelude.{◌≡◌, ◌==◌, if◌then◌else◌, ℕ, List, [], length, map, reverse, IsSome, Option, Some, None, vec_capacity}
+use Rattle.std.specs.Prelude.{◌≡◌, ◌==◌, ◌⊎◌, if◌then◌else◌, ℕ, List, [], length, map, replicate, reverse, IsSome, Option, Some, None, Result, Ok, Err, vec_capacity, ⊤}
+use Rattle.like_live.specs.declared.open_error.OpenError.{OpenError}
 use Rattle.std.specs.Option.{is_some}
 use Rattle.like_live.specs.declared.opening.Opening.{Opening}
-use Rattle.like_live.specs.Opening.{Asking, asking}
+use Rattle.like_live.specs.Opening.{Asking, IsRefusedFor, asking}
 use Rattle.like_live.specs.Service.{AreOpened}
 use Rattle.like_live.specs.LiveView.{LiveView}
 use Rattle.std.specs.Global.{Global}
@@ -10,6 +11,8 @@ use Rattle.std_alloc.specs.declared.boxed.Box.{Box}
 use Rattle.like_c.specs.declared.opened.BoxedSeat.{BoxedSeat}
 use Rattle.like_c.specs.declared.opened.Opened.{Opened}
 use Rattle.like_c.specs.declared.rows.Options.{Options}
+use Rattle.like_c.specs.Asks.{Fills}
+use Rattle.like_c.specs.Status.{open_status, status, wrong_reserved}
 
 -- how many likes make a page hot; 0: no page gets hot
 abbrev pub hot_of : ℕ → Option ℕ
@@ -41,3 +44,19 @@ pub record IsOpenedAs (asked : Asking) (it : Opened) : Type 0 where
   pub finds : it.driver.splits.finds ≡ is_some opening.hot
   pub room : vec_capacity it.back ≡ length it.seats.items
   pub phase : IsSome it.phase
+
+-- no reserved field is in use
+abbrev pub IsUnreserved : Options → Type 0
+IsUnreserved options = options.reserved ≡ replicate 6 0
+
+-- a service is opened as is asked for; or it is told what is wrong first, or that there is no memory
+abbrev pub Opens : {A : Type 0} → (Asking → A → Type 0) → Options → Asking → Result A ℕ → Type 0
+Opens is options asked (Ok x) = IsUnreserved options × is asked x
+Opens is options asked (Err why) =
+    ((¬ IsUnreserved options) × (why ≡ status wrong_reserved))
+    ⊎ (IsUnreserved options × ((error : OpenError) × IsRefusedFor asked error × (why ≡ open_status error)))
+
+abbrev pub OpensAt : {A : Type 0} → (Asking → A → Type 0) → Options → List ℕ → List ℕ → List ℕ → Option A → ℕ
+    → Option A → Type 0
+OpensAt is options counts marks lasts at result after =
+    Fills (Opens is options (asked_of options counts marks lasts)) ⊤ at result after

@@ -1,5 +1,5 @@
 -- The status of each answer. The numbers are those of likes.h.
-use Rattle.std.specs.Prelude.{ℕ, Bool, true, false, Option, Some, None, Result, Ok, Err}
+use Rattle.std.specs.Prelude.{◌≡◌, ℕ, Bool, true, false, Option, Some, None, Result, Ok, Err}
 use Rattle.like_requests.specs.declared.verdict.Verdict.{Verdict}
 use Rattle.like_requests.specs.declared.verdict.Verdict.TheVariants.{Accepted, UnknownUser, OtherHome, UnknownPage}
 use Rattle.like_live.specs.declared.answer.LikeAnswer.{LikeAnswer}
@@ -15,181 +15,113 @@ use Rattle.like_live.specs.declared.open_error.OpenError.TheVariants as open_err
 abbrev pub version : ℕ
 version = 6
 
-abbrev pub ok : ℕ
-ok = 0
+-- what is told, as likes.h names it
+pub data Status : Type 0 where
+  ok liked seen waits runs between no_room like_limit gone goes_on announced : Status
+  not_all_in released ended counted no_moment not_ended all_taken glimpsed busy no_found : Status
+  empty in_use no_memory unknown_user other_seat unknown_page unknown_op unknown_end wrong_range : Status
+  wrong_reserved wrong_pages wrong_marks wrong_count wrong_seats wrong_users wrong_room wrong_hot : Status
+  wrong_lasts open_client unknown_seat : Status
 
-abbrev pub liked : ℕ
-liked = 1
-
-abbrev pub seen : ℕ
-seen = 2
-
-abbrev pub waits : ℕ
-waits = 3
-
-abbrev pub runs : ℕ
-runs = 4
-
-abbrev pub between : ℕ
-between = 5
-
-abbrev pub no_room : ℕ
-no_room = 6
-
-abbrev pub like_limit : ℕ
-like_limit = 7
-
-abbrev pub gone : ℕ
-gone = 8
-
-abbrev pub goes_on : ℕ
-goes_on = 9
-
-abbrev pub announced : ℕ
-announced = 10
-
-abbrev pub not_all_in : ℕ
-not_all_in = 11
-
-abbrev pub released : ℕ
-released = 12
-
-abbrev pub ended : ℕ
-ended = 13
-
-abbrev pub counted : ℕ
-counted = 14
-
-abbrev pub no_moment : ℕ
-no_moment = 15
-
-abbrev pub not_ended : ℕ
-not_ended = 16
-
-abbrev pub all_taken : ℕ
-all_taken = 17
-
-abbrev pub glimpsed : ℕ
-glimpsed = 18
-
-abbrev pub busy : ℕ
-busy = 19
-
-abbrev pub no_found : ℕ
-no_found = 20
-
-abbrev pub empty : ℕ
-empty = 100
-
-abbrev pub in_use : ℕ
-in_use = 101
-
-abbrev pub no_memory : ℕ
-no_memory = 102
-
-abbrev pub unknown_user : ℕ
-unknown_user = 103
-
-abbrev pub other_seat : ℕ
-other_seat = 104
-
-abbrev pub unknown_page : ℕ
-unknown_page = 105
-
-abbrev pub unknown_op : ℕ
-unknown_op = 106
-
-abbrev pub unknown_end : ℕ
-unknown_end = 107
-
-abbrev pub wrong_range : ℕ
-wrong_range = 108
-
-abbrev pub wrong_reserved : ℕ
-wrong_reserved = 109
-
-abbrev pub wrong_pages : ℕ
-wrong_pages = 110
-
-abbrev pub wrong_marks : ℕ
-wrong_marks = 111
-
-abbrev pub wrong_count : ℕ
-wrong_count = 112
-
-abbrev pub wrong_seats : ℕ
-wrong_seats = 113
-
-abbrev pub wrong_users : ℕ
-wrong_users = 114
-
-abbrev pub wrong_room : ℕ
-wrong_room = 115
-
-abbrev pub wrong_hot : ℕ
-wrong_hot = 116
-
-abbrev pub wrong_lasts : ℕ
-wrong_lasts = 117
-
-abbrev pub open_client : ℕ
-open_client = 119
-
-abbrev pub unknown_seat : ℕ
-unknown_seat = 1003
+abbrev pub status : Status → ℕ
+status ok = 0
+status liked = 1
+status seen = 2
+status waits = 3
+status runs = 4
+status between = 5
+status no_room = 6
+status like_limit = 7
+status gone = 8
+status goes_on = 9
+status announced = 10
+status not_all_in = 11
+status released = 12
+status ended = 13
+status counted = 14
+status no_moment = 15
+status not_ended = 16
+status all_taken = 17
+status glimpsed = 18
+status busy = 19
+status no_found = 20
+status empty = 100
+status in_use = 101
+status no_memory = 102
+status unknown_user = 103
+status other_seat = 104
+status unknown_page = 105
+status unknown_op = 106
+status unknown_end = 107
+status wrong_range = 108
+status wrong_reserved = 109
+status wrong_pages = 110
+status wrong_marks = 111
+status wrong_count = 112
+status wrong_seats = 113
+status wrong_users = 114
+status wrong_room = 115
+status wrong_hot = 116
+status wrong_lasts = 117
+status open_client = 119
+status unknown_seat = 1003
 
 abbrev pub verdict_status : Verdict → ℕ
-verdict_status Accepted = ok
-verdict_status UnknownUser = unknown_user
-verdict_status OtherHome = other_seat
-verdict_status UnknownPage = unknown_page
+verdict_status Accepted = status ok
+verdict_status UnknownUser = status unknown_user
+verdict_status OtherHome = status other_seat
+verdict_status UnknownPage = status unknown_page
 
 abbrev pub like_status : LikeAnswer → ℕ
-like_status like.Liked = liked
-like_status like.Between = between
+like_status like.Liked = status liked
+like_status like.Between = status between
 like_status (like.Refused verdict) = verdict_status verdict
-like_status like.Full = like_limit
-like_status like.Gone = gone
+like_status like.Full = status like_limit
+like_status like.Gone = status gone
 
 abbrev pub turn_status : TurnAnswer → ℕ
-turn_status turn.Runs = runs
-turn_status turn.Between = between
-turn_status turn.Gone = gone
+turn_status turn.Runs = status runs
+turn_status turn.Between = status between
+turn_status turn.Gone = status gone
 
 abbrev pub driver_status : DriverAnswer → ℕ
-driver_status drive.Running = goes_on
-driver_status drive.Announced = announced
-driver_status drive.Waiting = not_all_in
-driver_status drive.Released = released
-driver_status drive.Ended = ended
+driver_status drive.Running = status goes_on
+driver_status drive.Announced = status announced
+driver_status drive.Waiting = status not_all_in
+driver_status drive.Released = status released
+driver_status drive.Ended = status ended
 
 -- a snapshot was taken in a phase, or not
 abbrev pub snapshot_status : Option ℕ → ℕ
-snapshot_status (Some phase) = counted
-snapshot_status None = no_moment
+snapshot_status (Some phase) = status counted
+snapshot_status None = status no_moment
 
 -- last counts were written, or not
 abbrev pub last_status : Bool → ℕ
-last_status true = counted
-last_status false = not_ended
+last_status true = status counted
+last_status false = status not_ended
 
 -- last likes were written, or there are not so many users
 abbrev pub lasts_status : Bool → ℕ
-lasts_status true = ok
-lasts_status false = wrong_range
+lasts_status true = status ok
+lasts_status false = status wrong_range
 
 abbrev pub open_status : OpenError → ℕ
-open_status open_error.Memory = no_memory
-open_status open_error.Pages = wrong_pages
-open_status open_error.Marks = wrong_marks
-open_status open_error.Counts = wrong_count
-open_status open_error.Seats = wrong_seats
-open_status open_error.Users = wrong_users
-open_status open_error.Lasts = wrong_lasts
-open_status open_error.Room = wrong_room
-open_status open_error.Hot = wrong_hot
+open_status open_error.Memory = status no_memory
+open_status open_error.Pages = status wrong_pages
+open_status open_error.Marks = status wrong_marks
+open_status open_error.Counts = status wrong_count
+open_status open_error.Seats = status wrong_seats
+open_status open_error.Users = status wrong_users
+open_status open_error.Lasts = status wrong_lasts
+open_status open_error.Room = status wrong_room
+open_status open_error.Hot = status wrong_hot
 
--- an answer by its status, or the status that came in its place
-abbrev pub told_status : {A : Type 0} → (A → ℕ) → Result A ℕ → ℕ
-told_status status (Ok answer) = status answer
-told_status status (Err refused) = refused
+-- of what has one answer: it is done
+abbrev pub done_status : {A : Type 0} → A → ℕ
+done_status answer = status ok
+
+-- an answer is told by its status, or by the status that came in its place
+abbrev pub HasStatus : {A : Type 0} → (A → ℕ) → ℕ → Result A ℕ → Type 0
+HasStatus status_of result (Ok answer) = result ≡ status_of answer
+HasStatus status_of result (Err why) = result ≡ why

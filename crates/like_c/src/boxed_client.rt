@@ -1,11 +1,10 @@
 //! A thread's client of a shared service, as it lies behind a handle.
 ghost use Rattle.std.specs.Arc.{arc_value};
-ghost use Rattle.std.specs.Prelude.{◌≡◌, ◌++◌, ◌+◌, ◌≤◌, ◌↔◌, [], ◌∷◌, IfErr, IfOk, IsSome, IsTrue, MatchOption, MatchResult, false, length, replicate};
+ghost use Rattle.std.specs.Prelude.{◌≡◌, ◌++◌, ◌+◌, ◌≤◌, ◌↔◌, [], ◌∷◌, IfErr, IfOk, IfSome, IsSome, IsTrue, MatchOption, MatchResult, false, length, replicate};
 ghost use Rattle.told_lock.specs.Rights.{IsIdle, log_of};
 ghost use Rattle.like_shared.specs.declared.desk.DeskDeed.TheVariants.{Made, Parked};
 ghost use Rattle.like_shared.specs.Hubs.{IsAtDesk};
-ghost use Rattle.like_shared.specs.Shared.{IsClient, driver_log, held_by, pages_of, seat_logs, seats_of};
-ghost use Rattle.like_c.specs.Cards.{IsCard};
+ghost use Rattle.like_shared.specs.Shared.{IsClient, driver_log, held_by, seat_logs, seats_of};
 
 use crate::opened::{APART, Apart};
 use crate::status;
@@ -22,11 +21,11 @@ pub struct BoxedClient {
     pub(crate) card: Option<Card>,
     apart: Apart,
     pub ghost client_is: { ∥ IsClient (arc_value hub).service client ∥₁ },
-    pub ghost card_is: { ∥ IsCard (arc_value hub) card ∥₁ },
+    pub ghost card_is: { ∥ IfSome card (IsIdle (arc_value hub).desk) ∥₁ },
 }
 
 impl BoxedClient {
-    ghost use Rattle.like_c.specs.Clients.{Calls, CallsDriver, Locks, Unlocks, hub_of};
+    ghost use Rattle.like_c.specs.Clients.{AtSeat, Calls, CallsDriver, CallsOne, Locks, Unlocks, hub_of, pages_by};
     ghost use Rattle.like_c.specs.Sharing.{IsNoClient};
 
     /// A new client in a box, made by this card at the desk. The box doesn't have the card yet. `Err`: a status says why
@@ -105,7 +104,7 @@ impl BoxedClient {
     /// Makes a call of a seat. `Err`: a status says why not.
     #[inline(always)]
     pub(crate) fn call<Q: SeatCall>(&mut self, seat: u32, call: &Q) -> Result<Q::Answer, u32>
-        ensures { Calls seat (λ answer. Q.deed call.now answer ∷ []) result self.old self.new }
+        ensures { CallsOne seat (Q.deed call.now) result self.old self.new }
     {
         let seat = seat as usize;
         if seat >= self.hub.service().seat_count() {
@@ -144,7 +143,7 @@ impl BoxedClient {
         call: &Q,
         places: &mut [Q::Written],
     ) -> Result<Q::Answer, u32>
-        requires { Q.reach call.now (length places.old) ≤ pages_of (hub_of self.old).service }
+        requires { Q.reach call.now (length places.old) ≤ pages_by self.old }
         ensures calls { CallsDriver (λ answer. Q.deed call.now answer places.new) result self.old self.new }
         ensures places { MatchResult result (λ answer. Q.writes call.now answer places.old places.new)
             (λ _. places.new ≡ places.old) }
@@ -157,7 +156,7 @@ impl BoxedClient {
 
     /// Locks a seat. `Err`: a status says why not.
     pub(crate) fn lock(&mut self, seat: u32) -> Result<(), u32>
-        ensures { Locks seat result self.old self.new }
+        ensures { AtSeat Locks seat result self.old self.new }
     {
         let seat = seat as usize;
         if seat >= self.hub.service().seat_count() {
@@ -171,7 +170,7 @@ impl BoxedClient {
 
     /// Unlocks a seat. `Err`: there is no such seat.
     pub(crate) fn unlock(&mut self, seat: u32) -> Result<(), u32>
-        ensures { Unlocks seat result self.old self.new }
+        ensures { AtSeat Unlocks seat result self.old self.new }
     {
         let seat = seat as usize;
         if seat >= self.hub.service().seat_count() {
@@ -183,7 +182,7 @@ impl BoxedClient {
 
     /// Whether there are `many` pages from `from` on.
     pub(crate) fn has_pages(&self, from: u32, many: usize) -> bool
-        ensures { IsTrue result ↔ (from + many ≤ pages_of (hub_of self.now).service) }
+        ensures { IsTrue result ↔ (from + many ≤ pages_by self.now) }
     {
         self.hub.has_pages(from, many)
     }

@@ -1,10 +1,9 @@
 //! A service that threads share, as it lies behind a handle.
 ghost use Rattle.std.specs.Arc.{arc_value};
-ghost use Rattle.std.specs.Prelude.{◌≡◌, ◌+◌, IfErr, IfOk, IsSome, MatchResult, OnOk, length};
-ghost use Rattle.std.specs.Option.{option_map};
+ghost use Rattle.std.specs.Prelude.{◌≡◌, ◌+◌, IfErr, IfOk, IsSome, MatchResult, None, OnOk, length};
 ghost use Rattle.told_lock.specs.Rights.{IsKeeper};
 ghost use Rattle.like_live.specs.Opening.{IsRefusedFor};
-ghost use Rattle.like_shared.specs.Hubs.{IsClosedHub};
+ghost use Rattle.like_shared.specs.Hubs.{IsClosedBy, IsLastKeeper};
 ghost use Rattle.like_shared.specs.Shared.{pages_of};
 
 use crate::boxed_client::BoxedClient;
@@ -29,7 +28,7 @@ pub struct BoxedShared {
 
 impl BoxedShared {
     ghost use Rattle.like_c.specs.Opened.{asked_of};
-    ghost use Rattle.like_c.specs.Sharing.{IsLost, IsNewClient, IsNoClient, IsNoEnd, IsSharedAs, KeepsShared, TakesSharedPhase, shared_hub};
+    ghost use Rattle.like_c.specs.Sharing.{IsLost, IsNewClient, IsNoClient, IsNoEnd, IsSharedAs, KeepsShared, shared_hub};
 
     /// Opens a service. Every number is tested before any memory is taken. The phase is boxed here, so that handing it
     /// out takes no memory.
@@ -86,7 +85,10 @@ impl BoxedShared {
 
     /// The phase, if it wasn't taken yet.
     pub(crate) fn take_phase(&mut self) -> Option<Box<BoxedPhase, Global>>
-        ensures { TakesSharedPhase self.old (option_map (λ b. b.value) result) self.new }
+        ensures taken { result ≡ self.old.phase }
+        ensures left { self.new.phase ≡ None }
+        ensures hub { self.new.hub ≡ self.old.hub }
+        ensures cards { self.new.cards ≡ self.old.cards }
     {
         self.phase.take()
     }
@@ -141,7 +143,7 @@ impl BoxedShared {
     /// Ends its service. `Err`: the service is lost, and a status says why.
     pub(crate) fn end(self, counts: &mut [u64]) -> Result<(), u32>
         requires { length counts.old ≡ pages_of (shared_hub self).service }
-        ensures closed { OnOk result (IsClosedHub (shared_hub self) counts.new) }
+        ensures closed { OnOk result (IsClosedBy (IsLastKeeper (shared_hub self)) (shared_hub self) counts.new) }
         ensures refused { IfErr result IsLost }
         ensures unchanged { IfErr result (λ _. counts.new ≡ counts.old) }
     {

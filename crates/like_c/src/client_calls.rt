@@ -1,10 +1,16 @@
 //! The calls of a client for C. Each makes the call of `like_shared` that it is named for, at the seat that is named, or
 //! tells that there is no such seat or that another thread has it.
-ghost use Rattle.std.specs.Prelude.{◌≡◌, ◌<◌, ◌≤◌, ℕ, length, slice_get};
-ghost use Rattle.like_shared.specs.declared.deed.SeatDeed.TheVariants.{ComeBack, Retire, Turn};
+ghost use Rattle.std.specs.Prelude.{◌≡◌, ◌<◌, ◌≤◌, ℕ, [], length, slice_get, ⊤};
+ghost use denote.RawPtr.{Ptr};
+ghost use Rattle.like_shared.specs.declared.deed.DriverDeed.TheVariants.{LastCounts, Propose, Snapshot, SplitPages};
+ghost use Rattle.like_shared.specs.declared.deed.SeatDeed.TheVariants.{ComeBack, Glance, Last, Lasts, Like, Look, Retire, TakeFound, Turn};
+ghost use Rattle.like_shared.specs.declared.deed.SeatDeed.TheVariants as deed;
+ghost use Rattle.like_c.specs.Asks.{Asks, AsksCounts, TellsFound, TellsLastLike, TellsLikes, TellsList, TellsNumber, TellsSplit, Turns, end_of};
 ghost use Rattle.like_c.specs.ClientRows.{ClientRuns};
-ghost use Rattle.like_c.specs.Clients.{ClientAddress, ClientDrives, ClientGlances, ClientLast, ClientLastCounts, ClientLasts, ClientLikes, ClientLikesRow, ClientLocks, ClientLooks, ClientPhase, ClientProposes, ClientSnapshots, ClientSplitPages, ClientTakesFound, ClientTurns, ClientUnlocks};
+ghost use Rattle.like_c.specs.Clients.{AtSeat, Calls, CallsDriver, CallsOne, Locks, Unlocks, pages_by};
+ghost use Rattle.like_c.specs.Rows.{HasRow, glance_row, look_row};
 ghost use Rattle.like_c.specs.Sharing.{ClosesClient};
+ghost use Rattle.like_c.specs.Status.{HasStatus, done_status, driver_status, last_status, lasts_status, like_status, ok, snapshot_status, turn_status};
 
 use crate::address_row::{Address, AddressRow};
 use crate::client_handle::ClientHandle;
@@ -44,7 +50,7 @@ pub extern "C" fn likes_client_like(
     user: u32,
     page: u32,
 ) -> u32
-    ensures { ClientLikes seat user page client.old.home result client.new.home }
+    ensures { Asks (CallsOne seat (Like user page)) (HasStatus like_status result) client.old.home client.new.home }
 {
     let Some(boxed) = client.get() else {
         return status::EMPTY;
@@ -61,7 +67,8 @@ pub extern "C" fn likes_client_look(
     tag: u64,
     answer: &mut AnswerRow,
 ) -> u32
-    ensures case { ClientLooks seat user page tag client.old.home answer.new client.new.home }
+    ensures case { Asks (CallsOne seat (Look user page tag)) (HasRow look_row answer.new)
+        client.old.home client.new.home }
     ensures status { result ≡ answer.new.status }
 {
     let Some(boxed) = client.get() else {
@@ -80,7 +87,8 @@ pub extern "C" fn likes_client_glance(
     page: u32,
     answer: &mut AnswerRow,
 ) -> u32
-    ensures case { ClientGlances seat user page client.old.home answer.new client.new.home }
+    ensures case { Asks (CallsOne seat (Glance user page)) (HasRow glance_row answer.new)
+        client.old.home client.new.home }
     ensures status { result ≡ answer.new.status }
 {
     let Some(boxed) = client.get() else {
@@ -99,7 +107,8 @@ pub extern "C" fn likes_client_last(
     user: u32,
     page: &mut u32,
 ) -> u32
-    ensures { ClientLast seat user client.old.home page.old result page.new client.new.home }
+    ensures { Asks (CallsOne seat (Last user)) (TellsLastLike page.old result page.new)
+        client.old.home client.new.home }
 {
     let Some(boxed) = client.get() else {
         return status::EMPTY;
@@ -122,7 +131,8 @@ pub extern "C" fn likes_proved_client_lasts(
     from: u32,
     pages: &mut [u32],
 ) -> u32
-    ensures { ClientLasts seat from client.old.home pages.old result pages.new client.new.home }
+    ensures { Asks (CallsOne seat (Lasts from pages.new)) (TellsList lasts_status ok pages.old result pages.new)
+        client.old.home client.new.home }
 {
     let Some(boxed) = client.get() else {
         return status::EMPTY;
@@ -163,7 +173,8 @@ pub extern "C" fn likes_proved_client_like_row(
     likes: &[LikePair],
     counted: &mut usize,
 ) -> u32
-    ensures { ClientLikesRow seat likes.now client.old.home result counted.new client.new.home }
+    ensures { Asks (CallsOne seat (deed.LikeRow likes.now)) (TellsLikes likes.now result counted.new)
+        client.old.home client.new.home }
 {
     *counted = 0;
     let Some(boxed) = client.get() else {
@@ -184,7 +195,8 @@ pub extern "C" fn likes_client_take_found(
     seat: u32,
     found: &mut FoundRow,
 ) -> u32
-    ensures { ClientTakesFound seat client.old.home found.old result found.new client.new.home }
+    ensures { Asks (CallsOne seat TakeFound) (TellsFound found.old result found.new)
+        client.old.home client.new.home }
 {
     let Some(boxed) = client.get() else {
         return status::EMPTY;
@@ -201,7 +213,7 @@ pub extern "C" fn likes_client_take_found(
 
 #[unsafe(no_mangle)]
 pub extern "C" fn likes_client_turn(client: &mut ClientHandle, seat: u32) -> u32
-    ensures { ClientTurns Turn seat client.old.home result client.new.home }
+    ensures { Asks (CallsOne seat Turn) (HasStatus turn_status result) client.old.home client.new.home }
 {
     let Some(boxed) = client.get() else {
         return status::EMPTY;
@@ -211,7 +223,7 @@ pub extern "C" fn likes_client_turn(client: &mut ClientHandle, seat: u32) -> u32
 
 #[unsafe(no_mangle)]
 pub extern "C" fn likes_client_retire(client: &mut ClientHandle, seat: u32) -> u32
-    ensures { ClientTurns Retire seat client.old.home result client.new.home }
+    ensures { Asks (CallsOne seat Retire) (HasStatus turn_status result) client.old.home client.new.home }
 {
     let Some(boxed) = client.get() else {
         return status::EMPTY;
@@ -221,7 +233,7 @@ pub extern "C" fn likes_client_retire(client: &mut ClientHandle, seat: u32) -> u
 
 #[unsafe(no_mangle)]
 pub extern "C" fn likes_client_come_back(client: &mut ClientHandle, seat: u32) -> u32
-    ensures { ClientTurns ComeBack seat client.old.home result client.new.home }
+    ensures { Asks (CallsOne seat ComeBack) (HasStatus turn_status result) client.old.home client.new.home }
 {
     let Some(boxed) = client.get() else {
         return status::EMPTY;
@@ -233,7 +245,8 @@ pub extern "C" fn likes_client_come_back(client: &mut ClientHandle, seat: u32) -
 /// pointer stays as it was.
 #[unsafe(no_mangle)]
 pub extern "C" fn likes_client_phase(client: &mut ClientHandle, seat: u32, phase: &mut u64) -> u32
-    ensures { ClientPhase seat client.old.home phase.old result phase.new client.new.home }
+    ensures { Asks (Calls seat (λ _. [])) (TellsNumber phase.old result phase.new)
+        client.old.home client.new.home }
 {
     let Some(boxed) = client.get() else {
         return status::EMPTY;
@@ -255,7 +268,8 @@ pub extern "C" fn likes_proved_client_address(
     seat: u32,
     to: &mut Address,
 ) -> u32
-    ensures { ClientAddress seat client.old.home result client.new.home }
+    ensures { Asks (Calls seat (λ _. [])) (HasStatus (done_status {A = Ptr}) result)
+        client.old.home client.new.home }
 {
     let Some(boxed) = client.get() else {
         return status::EMPTY;
@@ -272,7 +286,7 @@ pub extern "C" fn likes_proved_client_address(
 /// Locks a seat for this client, until it is unlocked.
 #[unsafe(no_mangle)]
 pub extern "C" fn likes_client_lock(client: &mut ClientHandle, seat: u32) -> u32
-    ensures { ClientLocks seat client.old.home result client.new.home }
+    ensures { Asks (AtSeat Locks seat) (HasStatus done_status result) client.old.home client.new.home }
 {
     let Some(boxed) = client.get() else {
         return status::EMPTY;
@@ -283,7 +297,7 @@ pub extern "C" fn likes_client_lock(client: &mut ClientHandle, seat: u32) -> u32
 /// Unlocks a seat, if this client holds it.
 #[unsafe(no_mangle)]
 pub extern "C" fn likes_client_unlock(client: &mut ClientHandle, seat: u32) -> u32
-    ensures { ClientUnlocks seat client.old.home result client.new.home }
+    ensures { Asks (AtSeat Unlocks seat) (HasStatus done_status result) client.old.home client.new.home }
 {
     let Some(boxed) = client.get() else {
         return status::EMPTY;
@@ -294,7 +308,7 @@ pub extern "C" fn likes_client_unlock(client: &mut ClientHandle, seat: u32) -> u
 /// Has the driver take a turn.
 #[unsafe(no_mangle)]
 pub extern "C" fn likes_client_drive(client: &mut ClientHandle, end: u32) -> u32
-    ensures { ClientDrives client.old.home end result client.new.home }
+    ensures { Asks (Turns CallsDriver (end_of end)) (HasStatus driver_status result) client.old.home client.new.home }
 {
     let Some(boxed) = client.get() else {
         return status::EMPTY;
@@ -311,7 +325,8 @@ pub extern "C" fn likes_proved_client_snapshot(
     from: u32,
     counts: &mut [u64],
 ) -> u32
-    ensures { ClientSnapshots client.old.home from counts.old result counts.new client.new.home }
+    ensures { AsksCounts pages_by CallsDriver Snapshot snapshot_status client.old.home from counts.old
+        result counts.new client.new.home }
 {
     let Some(boxed) = client.get() else {
         return status::EMPTY;
@@ -328,7 +343,8 @@ pub extern "C" fn likes_proved_client_last_counts(
     from: u32,
     counts: &mut [u64],
 ) -> u32
-    ensures { ClientLastCounts client.old.home from counts.old result counts.new client.new.home }
+    ensures { AsksCounts pages_by CallsDriver LastCounts last_status client.old.home from counts.old
+        result counts.new client.new.home }
 {
     let Some(boxed) = client.get() else {
         return status::EMPTY;
@@ -347,7 +363,8 @@ pub extern "C" fn likes_proved_client_split_pages(
     pages: &mut [u32],
     written: &mut usize,
 ) -> u32
-    ensures { ClientSplitPages client.old.home pages.old result pages.new written.new client.new.home }
+    ensures { Asks (CallsDriver (SplitPages pages.new)) (λ told. HasStatus done_status result told
+        × TellsSplit pages.old pages.new written.new told) client.old.home client.new.home }
 {
     *written = 0;
     let Some(boxed) = client.get() else {
@@ -365,7 +382,8 @@ pub extern "C" fn likes_proved_client_split_pages(
 /// Proposes these pages for slots from now on.
 #[unsafe(no_mangle)]
 pub extern "C" fn likes_proved_client_propose(client: &mut ClientHandle, pages: &[u32]) -> u32
-    ensures { ClientProposes pages.now client.old.home result client.new.home }
+    ensures { Asks (CallsDriver (λ _. Propose pages.now)) (HasStatus (done_status {A = ⊤}) result)
+        client.old.home client.new.home }
 {
     let Some(boxed) = client.get() else {
         return status::EMPTY;

@@ -25,12 +25,14 @@ impl Model for ClientHandle {
 }
 
 impl ClientHandle {
-    ghost use Rattle.like_c.specs.Lends.{LendsClient};
+    ghost use Rattle.like_c.specs.contracts.client_handle.ClientHandle as Handle;
+    ghost use Rattle.std.specs.Borrow.{LendsIf};
 
     /// The client, if there is one. The pointer stays as it is.
     #[inline(always)]
     pub(crate) fn get(&mut self) -> Option<&mut BoxedClient>
-        ensures* lends { sem 𝓛 (LendsClient self.entry result) }
+        ensures* lends { sem 𝓛 (LendsIf Handle.the_row the_row self.entry result
+            (λ client. record { at = self.entry.now.at; home = Some client }) self.entry.now) }
         ensures client { MatchOption result (self.old.home ≡ None)
             (λ client. self.old.home ≡ Some client.now) }
     {

@@ -25,12 +25,14 @@ impl Model for DriverHandle {
 }
 
 impl DriverHandle {
-    ghost use Rattle.like_c.specs.Lends.{LendsDriver};
+    ghost use Rattle.like_c.specs.contracts.driver_handle.DriverHandle as Handle;
+    ghost use Rattle.std.specs.Borrow.{LendsIf};
 
     /// The driver, if there is one. The pointer stays as it is.
     #[inline(always)]
     pub(crate) fn get(&mut self) -> Option<&mut Opened>
-        ensures* lends { sem 𝓛 (LendsDriver self.entry result) }
+        ensures* lends { sem 𝓛 (LendsIf Handle.the_row the_row self.entry result
+            (λ driver. record { at = self.entry.now.at; home = Some driver }) self.entry.now) }
         ensures driver { MatchOption result (self.old.home ≡ None)
             (λ driver. self.old.home ≡ Some driver.now) }
     {

@@ -2,10 +2,16 @@
 //! first. include/likes.h has the same calls as C sees them, with the rules for a host.
 #![tactic(auto)]
 
-ghost use Rattle.std.specs.Prelude.{◌≡◌, ◌<◌, ◌≤◌, ℕ, length, slice_get, None};
+ghost use Rattle.std.specs.Prelude.{◌≡◌, ◌<◌, ◌≤◌, ℕ, length, slice_get, None, ⊤};
+ghost use Rattle.like_seat.specs.StationView.{phase_at};
+ghost use Rattle.like_shared.specs.declared.deed.DriverDeed.TheVariants.{LastCounts, Propose, Snapshot, SplitPages};
+ghost use Rattle.like_shared.specs.declared.deed.SeatDeed.TheVariants.{ComeBack, Glance, Last, Lasts, Like, Look, Retire, TakeFound, Turn};
+ghost use Rattle.like_c.specs.Asks.{Asks, AsksCounts, At, HandsOut, TellsLastLike, TellsList, TellsSplit, Turns, end_of};
 ghost use Rattle.like_c.specs.Closes.{ClosesAt, HoldItsSeats};
-ghost use Rattle.like_c.specs.Held.{ComesBackAt, DriverPhaseAt, DrivesAt, GlancesAt, HandsPhase, HandsSeat, LastAt, LastLikeAt, LastLikesAt, LikesAt, LooksAt, OpensAt, PhaseAt, PhaseNowAt, ProposesAt, RetiresAt, RunsAt, SnapshotAt, SplitPagesAt, TakesFoundAt, TurnsAt, end_of};
-ghost use Rattle.like_c.specs.Status.{version};
+ghost use Rattle.like_c.specs.Held.{CallsOpened, CallsSeat, RunsAt, TakesPhase, TakesSeat, TellsIfFound, pages_in};
+ghost use Rattle.like_c.specs.Opened.{IsOpenedAs, OpensAt};
+ghost use Rattle.like_c.specs.Rows.{HasRow, glance_row, look_row};
+ghost use Rattle.like_c.specs.Status.{HasStatus, done_status, driver_status, last_status, lasts_status, like_status, ok, snapshot_status, turn_status, version};
 
 mod address_row;
 mod boxed_client;
@@ -59,7 +65,7 @@ pub extern "C" fn likes_proved_open(
     lasts: &[u32],
     driver: &mut DriverHandle,
 ) -> u32
-    ensures { OpensAt options.now counts.now marks.now lasts.now driver.old.home result driver.new.home }
+    ensures { OpensAt IsOpenedAs options.now counts.now marks.now lasts.now driver.old.home result driver.new.home }
 {
     if driver.is_full() {
         return status::IN_USE;
@@ -79,7 +85,7 @@ pub extern "C" fn likes_proved_open(
 /// Hands out the next seat. All boxes were made by `likes_proved_open`: this takes no memory.
 #[unsafe(no_mangle)]
 pub extern "C" fn likes_driver_take_seat(driver: &mut DriverHandle, seat: &mut SeatHandle) -> u32
-    ensures { HandsSeat driver.old.home seat.old.home result driver.new.home seat.new.home }
+    ensures { HandsOut TakesSeat driver.old.home seat.old.home result driver.new.home seat.new.home }
 {
     if seat.is_full() {
         return status::IN_USE;
@@ -99,7 +105,8 @@ pub extern "C" fn likes_driver_take_seat(driver: &mut DriverHandle, seat: &mut S
 /// Hands out the phase, once.
 #[unsafe(no_mangle)]
 pub extern "C" fn likes_driver_take_phase(driver: &mut DriverHandle, phase: &mut PhaseHandle) -> u32
-    ensures { HandsPhase driver.old.home phase.old.home result driver.new.home phase.new.home }
+    ensures { HandsOut (λ told o p. TakesPhase told o.phase p.phase × (p ≡ record o { phase = p.phase }))
+        driver.old.home phase.old.home result driver.new.home phase.new.home }
 {
     if phase.is_full() {
         return status::IN_USE;
@@ -118,7 +125,7 @@ pub extern "C" fn likes_driver_take_phase(driver: &mut DriverHandle, phase: &mut
 
 #[unsafe(no_mangle)]
 pub extern "C" fn likes_driver_turn(driver: &mut DriverHandle, end: u32) -> u32
-    ensures { DrivesAt driver.old.home end result driver.new.home }
+    ensures { Asks (Turns CallsOpened (end_of end)) (HasStatus driver_status result) driver.old.home driver.new.home }
 {
     let Some(opened) = driver.get() else {
         return status::EMPTY;
@@ -147,7 +154,9 @@ pub extern "C" fn likes_proved_driver_snapshot(
     from: u32,
     counts: &mut [u64],
 ) -> u32
-    ensures { SnapshotAt driver.old.home from counts.old result counts.new driver.new.home }
+    ensures counts { AsksCounts pages_in CallsOpened Snapshot snapshot_status driver.old.home from counts.old
+        result counts.new driver.new.home }
+    ensures len { length counts.new ≡ length counts.old }
 {
     let Some(opened) = driver.get() else {
         return status::EMPTY;
@@ -163,7 +172,8 @@ pub extern "C" fn likes_proved_driver_snapshot(
 
 #[unsafe(no_mangle)]
 pub extern "C" fn likes_driver_phase(driver: &mut DriverHandle) -> u64
-    ensures { DriverPhaseAt driver.old.home result driver.new.home }
+    ensures { At (result ≡ 0) (λ o p. (result ≡ o.driver.lead.seat.phase) × (p ≡ o))
+        driver.old.home driver.new.home }
 {
     match driver.get() {
         Some(opened) => opened.driver.phase(),
@@ -178,7 +188,9 @@ pub extern "C" fn likes_proved_driver_split_pages(
     driver: &mut DriverHandle,
     pages: &mut [u32],
 ) -> usize
-    ensures { SplitPagesAt driver.old.home pages.old result pages.new driver.new.home }
+    ensures pages { Asks (CallsOpened (SplitPages pages.new)) (TellsSplit pages.old pages.new result)
+        driver.old.home driver.new.home }
+    ensures len { length pages.new ≡ length pages.old }
 {
     let Some(opened) = driver.get() else {
         return 0;
@@ -189,7 +201,8 @@ pub extern "C" fn likes_proved_driver_split_pages(
 /// Proposes these pages for slots from now on. If the list is empty, the service finds pages by sampling.
 #[unsafe(no_mangle)]
 pub extern "C" fn likes_proved_driver_propose(driver: &mut DriverHandle, pages: &[u32]) -> u32
-    ensures { ProposesAt pages.now driver.old.home result driver.new.home }
+    ensures { Asks (CallsOpened (λ _. Propose pages.now)) (HasStatus (done_status {A = ⊤}) result)
+        driver.old.home driver.new.home }
 {
     let Some(opened) = driver.get() else {
         return status::EMPTY;
@@ -206,7 +219,9 @@ pub extern "C" fn likes_proved_driver_last_counts(
     from: u32,
     counts: &mut [u64],
 ) -> u32
-    ensures { LastAt driver.old.home from counts.old result counts.new driver.new.home }
+    ensures counts { AsksCounts pages_in CallsOpened LastCounts last_status driver.old.home from counts.old
+        result counts.new driver.new.home }
+    ensures len { length counts.new ≡ length counts.old }
 {
     let Some(opened) = driver.get() else {
         return status::EMPTY;
@@ -258,7 +273,7 @@ pub extern "C" fn likes_proved_driver_free(alloc: Global, driver: &mut DriverHan
 
 #[unsafe(no_mangle)]
 pub extern "C" fn likes_proved_seat_like(seat: &mut SeatHandle, user: u32, page: u32) -> u32
-    ensures { LikesAt user page seat.old.home result seat.new.home }
+    ensures { Asks (CallsSeat (Like user page)) (HasStatus like_status result) seat.old.home seat.new.home }
 {
     let Some(boxed) = seat.get() else {
         return status::EMPTY;
@@ -274,7 +289,7 @@ pub extern "C" fn likes_proved_seat_look(
     tag: u64,
     answer: &mut AnswerRow,
 ) -> u32
-    ensures case { LooksAt user page tag seat.old.home answer.new seat.new.home }
+    ensures case { Asks (CallsSeat (Look user page tag)) (HasRow look_row answer.new) seat.old.home seat.new.home }
     ensures status { result ≡ answer.new.status }
 {
     let Some(boxed) = seat.get() else {
@@ -292,7 +307,7 @@ pub extern "C" fn likes_proved_seat_glance(
     page: u32,
     answer: &mut AnswerRow,
 ) -> u32
-    ensures case { GlancesAt user page seat.old.home answer.new seat.new.home }
+    ensures case { Asks (CallsSeat (Glance user page)) (HasRow glance_row answer.new) seat.old.home seat.new.home }
     ensures status { result ≡ answer.new.status }
 {
     let Some(boxed) = seat.get() else {
@@ -306,7 +321,8 @@ pub extern "C" fn likes_proved_seat_glance(
 /// The page of a user's last like. A user who is refused leaves the number behind the pointer as it was.
 #[unsafe(no_mangle)]
 pub extern "C" fn likes_proved_seat_last(seat: &mut SeatHandle, user: u32, page: &mut u32) -> u32
-    ensures { LastLikeAt user seat.old.home page.old result page.new seat.new.home }
+    ensures { Asks (CallsSeat (Last user)) (TellsLastLike page.old result page.new)
+        seat.old.home seat.new.home }
 {
     let Some(boxed) = seat.get() else {
         return status::EMPTY;
@@ -327,7 +343,9 @@ pub extern "C" fn likes_proved_seat_lasts(
     from: u32,
     pages: &mut [u32],
 ) -> u32
-    ensures { LastLikesAt from seat.old.home pages.old result pages.new seat.new.home }
+    ensures pages { Asks (CallsSeat (Lasts from pages.new)) (TellsList lasts_status ok pages.old result pages.new)
+        seat.old.home seat.new.home }
+    ensures len { length pages.new ≡ length pages.old }
 {
     let Some(boxed) = seat.get() else {
         return status::EMPTY;
@@ -341,7 +359,8 @@ pub extern "C" fn likes_proved_seat_lasts(
 
 #[unsafe(no_mangle)]
 pub extern "C" fn likes_proved_seat_take_found(seat: &mut SeatHandle, found: &mut FoundRow) -> bool
-    ensures { TakesFoundAt seat.old.home found.old result found.new seat.new.home }
+    ensures { Asks (CallsSeat TakeFound) (TellsIfFound found.old result found.new)
+        seat.old.home seat.new.home }
 {
     let Some(boxed) = seat.get() else {
         return false;
@@ -379,7 +398,7 @@ pub extern "C" fn likes_proved_seat_run(
 
 #[unsafe(no_mangle)]
 pub extern "C" fn likes_proved_seat_turn(seat: &mut SeatHandle) -> u32
-    ensures { TurnsAt seat.old.home result seat.new.home }
+    ensures { Asks (CallsSeat Turn) (HasStatus turn_status result) seat.old.home seat.new.home }
 {
     let Some(boxed) = seat.get() else {
         return status::EMPTY;
@@ -389,7 +408,7 @@ pub extern "C" fn likes_proved_seat_turn(seat: &mut SeatHandle) -> u32
 
 #[unsafe(no_mangle)]
 pub extern "C" fn likes_proved_seat_retire(seat: &mut SeatHandle) -> u32
-    ensures { RetiresAt seat.old.home result seat.new.home }
+    ensures { Asks (CallsSeat Retire) (HasStatus turn_status result) seat.old.home seat.new.home }
 {
     let Some(boxed) = seat.get() else {
         return status::EMPTY;
@@ -399,7 +418,7 @@ pub extern "C" fn likes_proved_seat_retire(seat: &mut SeatHandle) -> u32
 
 #[unsafe(no_mangle)]
 pub extern "C" fn likes_proved_seat_come_back(seat: &mut SeatHandle) -> u32
-    ensures { ComesBackAt seat.old.home result seat.new.home }
+    ensures { Asks (CallsSeat ComeBack) (HasStatus turn_status result) seat.old.home seat.new.home }
 {
     let Some(boxed) = seat.get() else {
         return status::EMPTY;
@@ -409,7 +428,8 @@ pub extern "C" fn likes_proved_seat_come_back(seat: &mut SeatHandle) -> u32
 
 #[unsafe(no_mangle)]
 pub extern "C" fn likes_proved_seat_phase(seat: &mut SeatHandle) -> u64
-    ensures { PhaseAt seat.old.home result seat.new.home }
+    ensures { At (result ≡ 0) (λ s t. (result ≡ phase_at s.live.station) × (t ≡ s))
+        seat.old.home seat.new.home }
 {
     match seat.get() {
         Some(boxed) => boxed.live.phase(),
@@ -428,7 +448,7 @@ pub extern "C" fn likes_proved_seat_free(alloc: Global, seat: &mut SeatHandle)
 /// is of one call at a time: an export can't share what is behind a pointer (README.md).
 #[unsafe(no_mangle)]
 pub extern "C" fn likes_phase_now(phase: &mut PhaseHandle) -> u64
-    ensures { PhaseNowAt phase.old.home result phase.new.home }
+    ensures { At (result ≡ 0) (λ p q. q ≡ p) phase.old.home phase.new.home }
 {
     match phase.get() {
         Some(boxed) => boxed.phase.get(),

@@ -25,12 +25,14 @@ impl Model for PhaseHandle {
 }
 
 impl PhaseHandle {
-    ghost use Rattle.like_c.specs.Lends.{LendsPhase};
+    ghost use Rattle.like_c.specs.contracts.phase_handle.PhaseHandle as Handle;
+    ghost use Rattle.std.specs.Borrow.{LendsIf};
 
     /// The phase, if there is one. The pointer stays as it is.
     #[inline(always)]
     pub(crate) fn get(&mut self) -> Option<&mut BoxedPhase>
-        ensures* lends { sem 𝓛 (LendsPhase self.entry result) }
+        ensures* lends { sem 𝓛 (LendsIf Handle.the_row the_row self.entry result
+            (λ phase. record { at = self.entry.now.at; home = Some phase }) self.entry.now) }
         ensures phase { MatchOption result (self.old.home ≡ None)
             (λ phase. self.old.home ≡ Some phase.now) }
     {

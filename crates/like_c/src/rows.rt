@@ -1,8 +1,8 @@
 //! The rows that cross between C and Rattle.
 ghost use Rattle.std.specs.Prelude.{◌≡◌, ◌↔◌, IsTrue};
-ghost use Rattle.like_c.specs.Held.{IsUnreserved};
 ghost use Rattle.like_c.specs.Layout.{AreLaidOut};
-ghost use Rattle.like_c.specs.Rows.{found_row, glance_row, look_row, shown_row, status_row, told_row};
+ghost use Rattle.like_c.specs.Opened.{IsUnreserved};
+ghost use Rattle.like_c.specs.Rows.{HasRow, found_row, glance_row, look_row, shown_row, status_row};
 ghost use Rattle.like_tables.specs.LastLike.{page_or_none};
 
 use crate::status;
@@ -147,7 +147,7 @@ impl AnswerRow {
 
     #[inline(always)]
     pub(crate) fn of_told_look(told: Result<LookAnswer, u32>) -> AnswerRow
-        ensures { result ≡ told_row look_row told }
+        ensures { HasRow look_row result told }
     {
         match told {
             Ok(answer) => AnswerRow::of_look(answer),
@@ -157,7 +157,7 @@ impl AnswerRow {
 
     #[inline(always)]
     pub(crate) fn of_told_glance(told: Result<GlanceAnswer, u32>) -> AnswerRow
-        ensures { result ≡ told_row glance_row told }
+        ensures { HasRow glance_row result told }
     {
         match told {
             Ok(answer) => AnswerRow::of_glance(answer),

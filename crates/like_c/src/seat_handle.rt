@@ -25,12 +25,14 @@ impl Model for SeatHandle {
 }
 
 impl SeatHandle {
-    ghost use Rattle.like_c.specs.Lends.{LendsSeat};
+    ghost use Rattle.like_c.specs.contracts.seat_handle.SeatHandle as Handle;
+    ghost use Rattle.std.specs.Borrow.{LendsIf};
 
     /// The seat, if there is one. The pointer stays as it is.
     #[inline(always)]
     pub(crate) fn get(&mut self) -> Option<&mut BoxedSeat>
-        ensures* lends { sem 𝓛 (LendsSeat self.entry result) }
+        ensures* lends { sem 𝓛 (LendsIf Handle.the_row the_row self.entry result
+            (λ seat. record { at = self.entry.now.at; home = Some seat }) self.entry.now) }
         ensures seat { MatchOption result (self.old.home ≡ None)
             (λ seat. self.old.home ≡ Some seat.now) }
     {

@@ -1,6 +1,9 @@
 //! The calls of a service that threads share, for C: it is opened, gives clients and its phase, and is closed.
 ghost use Rattle.std.specs.Prelude.{◌≡◌, None};
-ghost use Rattle.like_c.specs.Sharing.{ClosesShared, HandsSharedPhase, OpensClient, OpensShared};
+ghost use Rattle.like_c.specs.Asks.{HandsOut};
+ghost use Rattle.like_c.specs.Held.{TakesPhase};
+ghost use Rattle.like_c.specs.Opened.{OpensAt};
+ghost use Rattle.like_c.specs.Sharing.{ClosesShared, IsSharedAs, MakesClient};
 
 use crate::boxed_shared::BoxedShared;
 use crate::client_handle::ClientHandle;
@@ -20,7 +23,7 @@ pub extern "C" fn likes_proved_shared_open(
     lasts: &[u32],
     shared: &mut SharedHandle,
 ) -> u32
-    ensures { OpensShared options.now counts.now marks.now lasts.now shared.old.home result shared.new.home }
+    ensures { OpensAt IsSharedAs options.now counts.now marks.now lasts.now shared.old.home result shared.new.home }
 {
     if shared.is_full() {
         return status::IN_USE;
@@ -40,7 +43,8 @@ pub extern "C" fn likes_proved_shared_open(
 /// Hands out the phase, once.
 #[unsafe(no_mangle)]
 pub extern "C" fn likes_shared_take_phase(shared: &mut SharedHandle, phase: &mut PhaseHandle) -> u32
-    ensures { HandsSharedPhase shared.old.home phase.old.home result shared.new.home phase.new.home }
+    ensures { HandsOut (λ told b d. TakesPhase told b.phase d.phase × (d.hub ≡ b.hub) × (d.cards ≡ b.cards))
+        shared.old.home phase.old.home result shared.new.home phase.new.home }
 {
     if phase.is_full() {
         return status::IN_USE;
@@ -64,7 +68,7 @@ pub extern "C" fn likes_proved_client_open(
     shared: &mut SharedHandle,
     client: &mut ClientHandle,
 ) -> u32
-    ensures { OpensClient shared.old.home client.old.home result shared.new.home client.new.home }
+    ensures { HandsOut MakesClient shared.old.home client.old.home result shared.new.home client.new.home }
 {
     if client.is_full() {
         return status::IN_USE;

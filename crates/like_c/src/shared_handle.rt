@@ -25,12 +25,14 @@ impl Model for SharedHandle {
 }
 
 impl SharedHandle {
-    ghost use Rattle.like_c.specs.Lends.{LendsShared};
+    ghost use Rattle.like_c.specs.contracts.shared_handle.SharedHandle as Handle;
+    ghost use Rattle.std.specs.Borrow.{LendsIf};
 
     /// The service, if there is one. The pointer stays as it is.
     #[inline(always)]
     pub(crate) fn get(&mut self) -> Option<&mut BoxedShared>
-        ensures* lends { sem 𝓛 (LendsShared self.entry result) }
+        ensures* lends { sem 𝓛 (LendsIf Handle.the_row the_row self.entry result
+            (λ service. record { at = self.entry.now.at; home = Some service }) self.entry.now) }
         ensures service { MatchOption result (self.old.home ≡ None)
             (λ service. self.old.home ≡ Some service.now) }
     {

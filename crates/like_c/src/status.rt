@@ -1,6 +1,6 @@
 //! The statuses of likes.h, and which answer has which.
 ghost use Rattle.std.specs.Prelude.{◌≡◌};
-ghost use Rattle.like_c.specs.Status.{driver_status, last_status, lasts_status, like_status, ok, open_status, snapshot_status, told_status, turn_status, verdict_status};
+ghost use Rattle.like_c.specs.Status.{HasStatus, done_status, driver_status, last_status, lasts_status, like_status, open_status, snapshot_status, turn_status, verdict_status};
 
 use like_live::{DriverAnswer, LikeAnswer, OpenError, TurnAnswer};
 use like_requests::Verdict;
@@ -152,7 +152,7 @@ pub(crate) fn of_open(error: OpenError) -> u32
 
 #[inline(always)]
 pub(crate) fn of_told_like(told: Result<LikeAnswer, u32>) -> u32
-    ensures { result ≡ told_status like_status told }
+    ensures { HasStatus like_status result told }
 {
     match told {
         Ok(answer) => of_like(answer),
@@ -161,7 +161,7 @@ pub(crate) fn of_told_like(told: Result<LikeAnswer, u32>) -> u32
 }
 
 pub(crate) fn of_told_turn(told: Result<TurnAnswer, u32>) -> u32
-    ensures { result ≡ told_status turn_status told }
+    ensures { HasStatus turn_status result told }
 {
     match told {
         Ok(answer) => of_turn(answer),
@@ -170,7 +170,7 @@ pub(crate) fn of_told_turn(told: Result<TurnAnswer, u32>) -> u32
 }
 
 pub(crate) fn of_told_driver(told: Result<DriverAnswer, u32>) -> u32
-    ensures { result ≡ told_status driver_status told }
+    ensures { HasStatus driver_status result told }
 {
     match told {
         Ok(answer) => of_driver(answer),
@@ -179,7 +179,7 @@ pub(crate) fn of_told_driver(told: Result<DriverAnswer, u32>) -> u32
 }
 
 pub(crate) fn of_told_snapshot(told: Result<Option<u64>, u32>) -> u32
-    ensures { result ≡ told_status snapshot_status told }
+    ensures { HasStatus snapshot_status result told }
 {
     match told {
         Ok(Some(_)) => COUNTED,
@@ -189,7 +189,7 @@ pub(crate) fn of_told_snapshot(told: Result<Option<u64>, u32>) -> u32
 }
 
 pub(crate) fn of_told_last(told: Result<bool, u32>) -> u32
-    ensures { result ≡ told_status last_status told }
+    ensures { HasStatus last_status result told }
 {
     match told {
         Ok(true) => COUNTED,
@@ -199,7 +199,7 @@ pub(crate) fn of_told_last(told: Result<bool, u32>) -> u32
 }
 
 pub(crate) fn of_told_lasts(told: Result<bool, u32>) -> u32
-    ensures { result ≡ told_status lasts_status told }
+    ensures { HasStatus lasts_status result told }
 {
     match told {
         Ok(true) => OK,
@@ -210,7 +210,7 @@ pub(crate) fn of_told_lasts(told: Result<bool, u32>) -> u32
 
 /// What is done, or the status that came in its place.
 pub(crate) fn of_done(told: Result<(), u32>) -> u32
-    ensures { result ≡ told_status (λ _. ok) told }
+    ensures { HasStatus done_status result told }
 {
     match told {
         Ok(()) => OK,

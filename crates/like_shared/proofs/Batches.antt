@@ -1,15 +1,19 @@
 -- A batch of rows is a list of calls.
 use Rattle.std.proofs.Common.{◌≡◌, ℕ, zero, suc, Bool, true, false, List, [], ◌∷◌, ◌++◌, take, Result, Some, refl, sym, ap, ◌∙◌, subst, arith, append-nil}
 use Rattle.std.specs.List.{slice_get}
+use Rattle.std.specs.Prelude.{flat_map}
 use Rattle.std.proofs.lemmas.Option.{same_Some}
 use Rattle.like_live.specs.declared.call.Answer.{Answer}
 use Rattle.like_live.specs.declared.call.Answer.TheVariants as answer
 use Rattle.like_live.specs.declared.call.Call.{Call}
 use Rattle.like_live.specs.declared.call.Call.TheVariants as call
 use Rattle.like_live.specs.Batch.{AnswersRow, AnswersRows, Makes, all_rows, has_no_call, makes_call, stops_at}
-use Rattle.like_live.specs.History.{HasDone, Told, glance, like, look}
+use Rattle.like_live.specs.History.{HasDone, Told}
 use Rattle.like_live.specs.LiveView.{LiveView}
-use Rattle.like_shared.specs.Batches.{AreTold, BatchesAreCalls, IsCall, IsToldOne, told_none, told_one}
+use Rattle.like_shared.specs.Batches.{AreTold, BatchesAreCalls, IsToldOne, told_none, told_one}
+use Rattle.like_shared.specs.Deeds.{calls_of}
+use Rattle.like_shared.specs.Rows.{deeds_of_call}
+use Rattle.like_shared.proofs.Rows.{call-told}
 
 -- calls, and then others
 pub done-append : (v w z : LiveView) (xs ys : List Told) → HasDone v xs w → HasDone w ys z → HasDone v (xs ++ ys) z
@@ -18,23 +22,23 @@ done-append v w z (x ∷ xs) ys done more = (done.0, (done.1.0, done-append done
 
 -- a call of a batch is one of a history
 made-one : (v now : LiveView) (c : Call) (a : Answer) → Makes v c a now
-    → (t : Told) × HasDone v (t ∷ []) now × IsCall c a t
-made-one v now (call.Like user page) (answer.Like a) m = (like user page a, (now, (m, refl)), refl)
+    → HasDone v (flat_map calls_of (deeds_of_call c a)) now
+made-one v now (call.Like user page) (answer.Like a) m = (now, (m, refl))
 made-one v now (call.Like user page) (answer.Look a) m = absurd m
 made-one v now (call.Like user page) (answer.Glance a) m = absurd m
 made-one v now (call.Look user page tag) (answer.Like a) m = absurd m
-made-one v now (call.Look user page tag) (answer.Look a) m = (look user page tag a, (now, (m, refl)), refl)
+made-one v now (call.Look user page tag) (answer.Look a) m = (now, (m, refl))
 made-one v now (call.Look user page tag) (answer.Glance a) m = absurd m
 made-one v now (call.Glance user page) (answer.Like a) m = absurd m
 made-one v now (call.Glance user page) (answer.Look a) m = absurd m
-made-one v now (call.Glance user page) (answer.Glance a) m = (glance user page a, (now, (m, refl)), refl)
+made-one v now (call.Glance user page) (answer.Glance a) m = (now, (m, refl))
 
 -- a row is a call, or none
 one-row : {R T : Type 0} (asks : R → Result Call T) (tells : Answer → T) (v now : LiveView) (row : R) (x : T)
     (put_off : Bool) → AnswersRow asks tells v row x put_off now
     → (one : List Told) × HasDone v one now × IsToldOne asks tells row x one
 one-row asks tells v now row x put_off (makes_call c a asked made page written again) =
-    let m = made-one v now c a made in (m.0 ∷ [], m.1, told_one c a m.0 asked m.2 written refl)
+    (_, made-one v now c a made, told_one c a asked (call-told v now c a made) written refl)
 one-row asks tells v now row x put_off (has_no_call none no_more same) = ([], same, told_none none refl)
 
 -- and rows are calls

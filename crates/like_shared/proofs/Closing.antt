@@ -17,7 +17,7 @@ use Rattle.like_shared.specs.declared.service.ServiceKeeper.{ServiceKeeper}
 use Rattle.like_shared.specs.declared.service.SharedService.{SharedService}
 use Rattle.like_shared.specs.Closed.{AreEndsOf, IsClosedShared, LeadsTo, driver_end}
 use Rattle.like_shared.specs.Deeds.{DriverDoes, SeatDoes}
-use Rattle.like_shared.specs.Shared.{AreBack, driver_seen, driver_told, first_driver, first_seats, seats_seen, seats_told}
+use Rattle.like_shared.specs.Shared.{clients_out, first_driver, first_seats, seats_seen, seats_told}
 use Rattle.like_shared.specs.Strict.{SeatEnd, SharedServicesAreStrict, firsts, lasts}
 use Rattle.like_shared.proofs.Runs.{driver-runs, seat-runs}
 
@@ -43,7 +43,7 @@ same-ends (e ∷ es) = (seat-runs e.first e.last (deeds_in e.leads.order) e.lead
 
 -- once all passes are back, driver and seats are those to which its clients led
 pub leads-to : CallsKeepSeats → (s : SharedService) (k : ServiceKeeper) (driver : DriverView) (back : List LiveView)
-    → AreItsSeats (first_driver s) (first_seats s) → Leads DriverDoes (first_driver s) (driver_told k) (driver_seen k) driver
+    → AreItsSeats (first_driver s) (first_seats s) → Leads DriverDoes (first_driver s) (told_of k.driver) (seens_of k.driver) driver
     → AreEndsOf (first_seats s) (seats_told k) (seats_seen k) back → LeadsTo s k driver back
 leads-to keep s k driver back whole leads are = record {
   driver_leads = leads;
@@ -55,7 +55,7 @@ leads-to keep s k driver back whole leads are = record {
 }
 
 pub closed-shared : SharedServicesAreStrict → (s : SharedService) (k : ServiceKeeper) (driver : DriverView)
-    (back : List LiveView) (counts : List ℕ) → AreBack k → LeadsTo s k driver back
+    (back : List LiveView) (counts : List ℕ) → clients_out k ≡ 0 → LeadsTo s k driver back
     → IsClosedService driver back counts → AreGone back → IsClosedShared s k counts
 closed-shared law s k driver back counts are_back leads closed gone =
     let are = leads.seats_lead in

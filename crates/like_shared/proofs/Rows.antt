@@ -27,7 +27,7 @@ use Rattle.like_live.proofs.Calling.{GlancesNow-leaves, LeavesLikes, LikesNow-sa
 use Rattle.like_live.proofs.Moving.{Leaves-looked, same_seat, same_seat_both}
 use Rattle.like_shared.specs.declared.deed.SeatDeed.{SeatDeed}
 use Rattle.like_shared.specs.Deeds.{SeatDoes}
-use Rattle.like_shared.specs.Rows.{IsAnswerTo, IsRowDone, IsRowPutOff, deeds_of_call, deeds_of_rows, row_deeds}
+use Rattle.like_shared.specs.Rows.{IsAnswerTo, IsRowDone, IsRowPutOff, deeds_of_call, row_deeds}
 
 -- phase work leaves the same seat
 found-same : (v after : LiveView) → FindsAll v after → IsSameSeat v after
@@ -99,10 +99,10 @@ call-run v now (call.Glance user page) (answer.Like a) wrong = absurd wrong
 call-run v now (call.Glance user page) (answer.Look a) wrong = absurd wrong
 
 -- and is told an answer to it
-call-told : (v after : LiveView) (c : Call) (a : Answer) → Makes v c a after → IsAnswerTo c a
-call-told v after (call.Like user page) (answer.Like a) made = tt
-call-told v after (call.Look user page tag) (answer.Look a) made = tt
-call-told v after (call.Glance user page) (answer.Glance a) made = tt
+pub call-told : (v after : LiveView) (c : Call) (a : Answer) → Makes v c a after → IsAnswerTo c a
+call-told v after (call.Like user page) (answer.Like a) made = λ none. cc none
+call-told v after (call.Look user page tag) (answer.Look a) made = λ none. cc none
+call-told v after (call.Glance user page) (answer.Glance a) made = λ none. cc none
 call-told v after (call.Like user page) (answer.Look a) wrong = absurd wrong
 call-told v after (call.Like user page) (answer.Glance a) wrong = absurd wrong
 call-told v after (call.Look user page tag) (answer.Like a) wrong = absurd wrong
@@ -227,7 +227,7 @@ module _ {R T : Type 0} (asks : R → Result Call T) (tells : Answer → T) wher
 
 -- so is a batch of calls
 pub calls-run : (v after : LiveView) (rows : List Call) (answers : List Answer) (done : ℕ)
-    → RunCase (λ c. Ok c) (λ a. a) v rows answers done after → HasRun SeatDoes v (deeds_of_rows rows answers done) after
+    → RunCase (λ c. Ok c) (λ a. a) v rows answers done after → HasRun SeatDoes v (row_deeds deeds_of_call rows answers done) after
 calls-run =
     batch-run (λ c. Ok c) (λ a. a) deeds_of_call
     (λ row c a asks told page. (let same : row ≡ c = cc asks in ap (λ r. deeds_of_call r a) same))

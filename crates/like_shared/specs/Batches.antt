@@ -1,25 +1,18 @@
 -- A batch of rows is a list of calls.
-use Rattle.std.specs.Prelude.{◌≡◌, ℕ, ◌+◌, ◌≤◌, List, [], ◌∷◌, ◌++◌, take, Result, Ok, Err}
+use Rattle.std.specs.Prelude.{◌≡◌, ℕ, ◌+◌, ◌≤◌, List, [], ◌∷◌, ◌++◌, flat_map, take, Result, Ok, Err}
 use Rattle.like_live.specs.declared.call.Answer.{Answer}
-use Rattle.like_live.specs.declared.call.Answer.TheVariants as answer
 use Rattle.like_live.specs.declared.call.Call.{Call}
-use Rattle.like_live.specs.declared.call.Call.TheVariants as call
 use Rattle.like_live.specs.Batch.{RunCase}
-use Rattle.like_live.specs.History.{HasDone, Told, glance, like, look}
+use Rattle.like_live.specs.History.{HasDone, Told}
 use Rattle.like_live.specs.LiveView.{LiveView}
-
--- a call of a batch, with its answer, as one of a history
-abbrev pub IsCall : Call → Answer → Told → Type 0
-IsCall (call.Like user page) (answer.Like a) t = t ≡ like user page a
-IsCall (call.Look user page tag) (answer.Look a) t = t ≡ look user page tag a
-IsCall (call.Glance user page) (answer.Glance a) t = t ≡ glance user page a
-IsCall c a t = ⊥
+use Rattle.like_shared.specs.Deeds.{calls_of}
+use Rattle.like_shared.specs.Rows.{IsAnswerTo, deeds_of_call}
 
 -- a row asked for this call, and was told its answer; or it asked for none
 pub data IsToldOne {R T : Type 0} (asks : R → Result Call T) (tells : Answer → T) (row : R) (told : T) (one : List Told)
     : Type 0 where
-  told_one : (c : Call) (a : Answer) (t : Told) → asks row ≡ Ok c → IsCall c a t → told ≡ tells a → one ≡ t ∷ []
-      → IsToldOne asks tells row told one
+  told_one : (c : Call) (a : Answer) → asks row ≡ Ok c → IsAnswerTo c a → told ≡ tells a
+      → one ≡ flat_map calls_of (deeds_of_call c a) → IsToldOne asks tells row told one
   told_none : asks row ≡ Err told → one ≡ [] → IsToldOne asks tells row told one
 
 -- these rows asked for these calls, one after the other, and were told their answers

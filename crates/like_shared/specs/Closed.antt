@@ -1,6 +1,7 @@
 -- The end of a shared service.
-use Rattle.std.specs.Prelude.{◌≡◌, ℕ, List, map}
+use Rattle.std.specs.Prelude.{◌≡◌, ◌≢◌, ℕ, List, map}
 use Rattle.told_lock.specs.Deeds.{Leads, Named}
+use Rattle.told_lock.specs.Rights.{seens_of, told_of}
 use Rattle.like_live.specs.declared.opening.Opening.{Opening}
 use Rattle.like_live.specs.Driver.{DriverView}
 use Rattle.like_live.specs.LiveView.{LiveView}
@@ -11,7 +12,7 @@ use Rattle.like_shared.specs.declared.service.NotClosed.TheVariants.{ClientOut, 
 use Rattle.like_shared.specs.declared.service.ServiceKeeper.{ServiceKeeper}
 use Rattle.like_shared.specs.declared.service.SharedService.{SharedService}
 use Rattle.like_shared.specs.Deeds.{DriverDoes}
-use Rattle.like_shared.specs.Shared.{AreBack, driver_seen, driver_told, first_driver, first_seats, seats_seen, seats_told}
+use Rattle.like_shared.specs.Shared.{clients_out, first_driver, first_seats, seats_seen, seats_told}
 use Rattle.like_shared.specs.Strict.{DriverEnd, IsStrictlyShared, SeatEnd, firsts, lasts}
 
 -- what clients told of seats leads from these to those, in orders that continue what they have seen
@@ -25,7 +26,7 @@ pub record AreEndsOf (first : List LiveView) (told : List (Named SeatDeed)) (see
 
 -- what its clients told leads to this driver and to these seats, which are its own
 pub record LeadsTo (s : SharedService) (k : ServiceKeeper) (driver : DriverView) (seats : List LiveView) : Type 0 where
-  pub driver_leads : Leads DriverDoes (first_driver s) (driver_told k) (driver_seen k) driver
+  pub driver_leads : Leads DriverDoes (first_driver s) (told_of k.driver) (seens_of k.driver) driver
   pub seats_lead : AreEndsOf (first_seats s) (seats_told k) (seats_seen k) seats
   pub whole : AreItsSeats driver seats
 
@@ -33,14 +34,14 @@ pub record LeadsTo (s : SharedService) (k : ServiceKeeper) (driver : DriverView)
 abbrev pub driver_end : {s : SharedService} {k : ServiceKeeper} {driver : DriverView} {seats : List LiveView}
     → LeadsTo s k driver seats → DriverEnd
 driver_end {s} {k} {driver} it =
-    record { first = first_driver s; last = driver; told = driver_told k; seen = driver_seen k; leads = it.driver_leads }
+    record { first = first_driver s; last = driver; told = told_of k.driver; seen = seens_of k.driver; leads = it.driver_leads }
 
 -- a shared service is closed, with no client out and all seats gone: however it was opened, one thread could have done all
 -- that its clients told
 pub record IsClosedShared (s : SharedService) (k : ServiceKeeper) (counts : List ℕ) : Type 0 where
   pub driver : DriverView
   pub seats : List LiveView
-  pub back : AreBack k
+  pub back : clients_out k ≡ 0
   pub leads : LeadsTo s k driver seats
   pub gone : AreGone seats
   pub closed : IsClosedService driver seats counts
@@ -50,6 +51,6 @@ pub record IsClosedShared (s : SharedService) (k : ServiceKeeper) (counts : List
 -- why it isn't closed: a client is out, and service and keeper come back as they were; or all are back and a seat isn't
 -- gone, and the service comes back, shared no more
 abbrev pub IsNotClosed : SharedService → ServiceKeeper → NotClosed → Type 0
-IsNotClosed s k (ClientOut service keeper) = (service ≡ s) × (keeper ≡ k) × ¬ AreBack k
+IsNotClosed s k (ClientOut service keeper) = (service ≡ s) × (keeper ≡ k) × (clients_out k ≢ 0)
 IsNotClosed s k (SeatNotGone service) =
-    AreBack k × LeadsTo s k service.driver service.seats.items × ¬ AreGone service.seats.items
+    (clients_out k ≡ 0) × LeadsTo s k service.driver service.seats.items × ¬ AreGone service.seats.items

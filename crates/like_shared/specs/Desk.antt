@@ -1,26 +1,26 @@
 -- The desk of a shared service, at which clients are made and parked.
 use Rattle.std.specs.Prelude.{◌≡◌, ◌+◌, ◌-◌, ◌++◌, [], ◌∷◌}
 use Rattle.told_lock.specs.Deeds.{named}
-use Rattle.told_lock.specs.Rights.{name_of, seen_of}
+use Rattle.told_lock.specs.Rights.{name_of, seen_of, seens_of, told_of}
 use Rattle.like_shared.specs.declared.desk.DeskDeed.{DeskDeed}
 use Rattle.like_shared.specs.declared.desk.DeskDeed.TheVariants.{Made, Parked}
 use Rattle.like_shared.specs.declared.service.ServiceKeeper.{ServiceKeeper}
 use Rattle.like_shared.specs.declared.service.SharedService.{SharedService}
-use Rattle.like_shared.specs.Shared.{IsClient, IsServiceKeeper, clients_out, driver_log, driver_seen, driver_told, seats_seen, seats_told, with_logs, with_seen}
+use Rattle.like_shared.specs.Shared.{IsClient, IsServiceKeeper, clients_out, driver_log, seats_seen, seats_told, with_logs, with_seen}
 
 -- what the keeper of a service knows after a deed at its desk: how many clients are out, what it knew, and the log of the
 -- client that was parked, with what that has seen
 abbrev pub KeepsTold : SharedService → ServiceKeeper → DeskDeed → ServiceKeeper → Type 0
 KeepsTold s before Made after =
     (clients_out after ≡ clients_out before + 1)
-    × (seats_told after ≡ seats_told before) × (driver_told after ≡ driver_told before)
-    × (seats_seen after ≡ seats_seen before) × (driver_seen after ≡ driver_seen before)
+    × (seats_told after ≡ seats_told before) × (told_of after.driver ≡ told_of before.driver)
+    × (seats_seen after ≡ seats_seen before) × (seens_of after.driver ≡ seens_of before.driver)
 KeepsTold s before (Parked client) after =
     IsClient s client × (clients_out after ≡ clients_out before - 1)
     × (seats_told after ≡ with_logs (seats_told before) client.seats.items)
-    × (driver_told after ≡ driver_told before ++ named (name_of client.driver) (driver_log client))
+    × (told_of after.driver ≡ told_of before.driver ++ named (name_of client.driver) (driver_log client))
     × (seats_seen after ≡ with_seen (seats_seen before) client.seats.items)
-    × (driver_seen after ≡ driver_seen before ++ seen_of client.driver ∷ [])
+    × (seens_of after.driver ≡ seens_of before.driver ++ seen_of client.driver ∷ [])
 
 -- what a deed at the desk does: it leaves the keeper of the same service, which has lost nothing that clients told
 abbrev pub DeskDoes : ServiceKeeper → DeskDeed → ServiceKeeper → Type 0

@@ -25,28 +25,21 @@ done_for (Err why) = []
 
 -- a keeper to which some deeds at the hub's desk lead. That these are all that its cards told is not said: cards may be
 -- out
-pub record IsLastKeeper (h : Hub) (k : ServiceKeeper) : Type 0 where
-  pub done : List DeskDeed
-  pub run : HasRun DeskDoes (first_of h.desk) done k
+abbrev pub IsLastKeeper : Hub → ServiceKeeper → Type 0
+IsLastKeeper h k = (done : List DeskDeed) × HasRun DeskDoes (first_of h.desk) done k
 
--- a hub is closed: its service is, with the logs of the clients that such deeds parked
-pub record IsClosedHub (h : Hub) (counts : List ℕ) : Type 0 where
-  pub keeper : ServiceKeeper
-  pub last : IsLastKeeper h keeper
-  pub closed : IsClosedShared h.service keeper counts
+-- the keeper to which all that the cards told leads
+abbrev pub IsKeeperAfter : Hub → Named DeskDeed → ServiceKeeper → Type 0
+IsKeeperAfter h told k = (seen : List (Named DeskDeed)) × Leads DeskDoes (first_of h.desk) told seen k
+
+-- a hub is closed by such a keeper: its service is
+abbrev pub IsClosedBy : (ServiceKeeper → Type 0) → Hub → List ℕ → Type 0
+IsClosedBy is h counts = (k : ServiceKeeper) × is k × IsClosedShared h.service k counts
 
 -- why it isn't closed: its service isn't
+abbrev pub IsNotClosedBy : (ServiceKeeper → Type 0) → Hub → NotClosed → Type 0
+IsNotClosedBy is h why = (k : ServiceKeeper) × is k × IsNotClosed h.service k why
+
 abbrev pub IsHubNotClosed : Hub → HubNotClosed → Type 0
 IsHubNotClosed h DeskTaken = ⊤
-IsHubNotClosed h (Open why) = (k : ServiceKeeper) × IsLastKeeper h k × IsNotClosed h.service k why
-
--- a hub is closed with all cards back: its service is, by the keeper to which what the cards told leads
-pub record IsClosedWith (h : Hub) (told : Named DeskDeed) (counts : List ℕ) : Type 0 where
-  pub keeper : ServiceKeeper
-  pub seen : List (Named DeskDeed)
-  pub last : Leads DeskDoes (first_of h.desk) told seen keeper
-  pub closed : IsClosedShared h.service keeper counts
-
-abbrev pub IsNotClosedWith : Hub → Named DeskDeed → NotClosed → Type 0
-IsNotClosedWith h told why =
-    (k : ServiceKeeper) × (seen : _) × Leads DeskDoes (first_of h.desk) told seen k × IsNotClosed h.service k why
+IsHubNotClosed h (Open why) = IsNotClosedBy (IsLastKeeper h) h why

@@ -1,5 +1,5 @@
 -- The deeds of rows of calls, and of rows of likes.
-use Rattle.std.specs.Prelude.{◌≡◌, ◌≢◌, ℕ, ◌+◌, ◌<◌, ◌≤◌, List, [], ◌∷◌, flat_map, length, slice_get, take, Result, Ok, Err, Some, ⊤}
+use Rattle.std.specs.Prelude.{◌≡◌, ◌≢◌, ℕ, ◌+◌, ◌<◌, ◌≤◌, List, [], ◌∷◌, flat_map, length, slice_get, take, Result, Ok, Err, Some}
 use Rattle.std.specs.List.{zip}
 use Rattle.like_live.specs.declared.answer.LikeAnswer.TheVariants.{Liked}
 use Rattle.like_live.specs.declared.answer.TurnAnswer.TheVariants.{Runs}
@@ -14,7 +14,7 @@ use Rattle.like_live.specs.LikeRow.{turn_of}
 use Rattle.like_shared.specs.declared.deed.SeatDeed.{SeatDeed}
 use Rattle.like_shared.specs.declared.deed.SeatDeed.TheVariants as deed
 
--- the deed of a row's call with its answer
+-- the deed of a row's call with its answer; with one to another call there is none
 abbrev pub deeds_of_call : Call → Answer → List SeatDeed
 deeds_of_call (call.Like user page) (answer.Like a) = deed.Like user page a ∷ []
 deeds_of_call (call.Look user page tag) (answer.Look a) = deed.Look user page tag a ∷ []
@@ -26,15 +26,9 @@ deeds_of_call c a = []
 abbrev pub row_deeds : {R T : Type 0} → (R → T → List SeatDeed) → List R → List T → ℕ → List SeatDeed
 row_deeds deeds_of rows answers done = flat_map (λ r. deeds_of r.0 r.1) (take (done + 1) (zip rows answers))
 
-abbrev pub deeds_of_rows : List Call → List Answer → ℕ → List SeatDeed
-deeds_of_rows = row_deeds deeds_of_call
-
 -- the answer is one to this call
 abbrev pub IsAnswerTo : Call → Answer → Type 0
-IsAnswerTo (call.Like user page) (answer.Like a) = ⊤
-IsAnswerTo (call.Look user page tag) (answer.Look a) = ⊤
-IsAnswerTo (call.Glance user page) (answer.Glance a) = ⊤
-IsAnswerTo c a = ⊥
+IsAnswerTo c a = deeds_of_call c a ≢ []
 
 -- a row is done: it was told an answer to its call, which needn't be made again, or that it asks for none
 abbrev pub IsRowDone : {T : Type 0} → (Answer → T) → Result Call T → T → Type 0
@@ -59,10 +53,6 @@ pub record AreAnswered {R T : Type 0} (asks : R → Result Call T) (tells : Answ
       → IsRowPutOff tells (asks row) told
   pub later : (i : ℕ) → done < i → slice_get answers i ≡ slice_get old i
   pub unasked : (i : ℕ) → length rows ≤ i → slice_get answers i ≡ slice_get old i
-
--- the deed that a row of likes is, with what it was told
-abbrev pub deeds_of_likes : List LikePair → RowAnswer → List SeatDeed
-deeds_of_likes likes told = deed.LikeRow likes told ∷ []
 
 -- what a row of likes is told: how many were counted, which are all if it says `Liked`, and none if the seat runs no
 -- phase

@@ -45,18 +45,12 @@ pub record IsServiceKeeper (s : SharedService) (k : ServiceKeeper) : Type 0 wher
   pub none : k.back.items ≡ []
   pub room : length s.seats.items ≤ vec_capacity k.back
 
--- what the clients told that are back, and what each of them has seen: at each seat, and at the driver
+-- what the clients told at each seat that are back, and what each of them has seen there
 abbrev pub seats_told : ServiceKeeper → List (Named SeatDeed)
 seats_told k = map told_of k.seats.items
 
 abbrev pub seats_seen : ServiceKeeper → List (List (Named SeatDeed))
 seats_seen k = map seens_of k.seats.items
-
-abbrev pub driver_told : ServiceKeeper → Named DriverDeed
-driver_told k = told_of k.driver
-
-abbrev pub driver_seen : ServiceKeeper → List (Named DriverDeed)
-driver_seen k = seens_of k.driver
 
 -- a client of this service, which may hold seats
 pub record IsClient (s : SharedService) (c : Client) : Type 0 where
@@ -143,12 +137,8 @@ with_logs = with_each (λ told p. told ++ named (name_of p.pass) (log_at p))
 abbrev pub with_seen : List (List (Named SeatDeed)) → List SeatPass → List (List (Named SeatDeed))
 with_seen = with_each (λ seen p. seen ++ seen_at p ∷ [])
 
--- no client is out
-abbrev pub AreBack : ServiceKeeper → Type 0
-AreBack k = clients_out k ≡ 0
-
 -- no client is out, and none has told anything yet
 pub record IsUnused (k : ServiceKeeper) : Type 0 where
-  pub back : AreBack k
+  pub back : clients_out k ≡ 0
   pub seats : All (λ s. told_of s ≡ []) k.seats.items
-  pub driver : driver_told k ≡ []
+  pub driver : told_of k.driver ≡ []

@@ -12,10 +12,6 @@ use Rattle.like_shared.specs.Deeds.{DriverDoes}
 abbrev pub counted : DriverView → List PageCount
 counted v = v.lead.seat.counted
 
--- it still knows all that it knew
-abbrev pub KeepsCounts : DriverView → DriverView → Type 0
-KeepsCounts v w = All (Contains (counted w)) (counted v)
-
 -- the law of what stays the same: if each call leaves the same driver, or the same seat, so do two, one after the other
 pub record SameStays : Type 0 where
   pub driver_first : (v : DriverView) → IsSameDriver v v
@@ -32,7 +28,7 @@ KnowsCounts v phase from counts =
 -- the law of counts: whatever calls a driver is asked, it keeps the counts that it has read, and at the end it knows those
 -- that a snapshot among these calls wrote, as counts of the snapshot's phase, and those that were written as last ones
 pub record CountsStay : Type 0 where
-  pub kept : (v w : DriverView) (ds : List DriverDeed) → HasRun DriverDoes v ds w → KeepsCounts v w
+  pub kept : (v w : DriverView) (ds : List DriverDeed) → HasRun DriverDoes v ds w → All (Contains (counted w)) (counted v)
   pub snapshots : (v w : DriverView) (ds : List DriverDeed) (from phase : ℕ) (counts : List ℕ)
       → HasRun DriverDoes v ds w → Contains ds (Snapshot from counts (Some phase)) → KnowsCounts w phase from counts
   pub lasts : (v w : DriverView) (ds : List DriverDeed) (from : ℕ) (counts : List ℕ)

@@ -3,7 +3,7 @@ ghost use Rattle.std.specs.Prelude.{◌≡◌, ◌+◌, ◌<◌, ◌≤◌, IfEr
 ghost use Rattle.like_requests.specs.Verdict.{home};
 ghost use Rattle.like_shared.specs.declared.deed.DriverDeed.TheVariants as driver_deed;
 ghost use Rattle.like_shared.specs.declared.deed.SeatDeed.TheVariants as deed;
-ghost use Rattle.like_shared.specs.Rows.{AreAnswered, IsToldOf, deeds_of_likes, deeds_of_rows};
+ghost use Rattle.like_shared.specs.Rows.{AreAnswered, IsToldOf, deeds_of_call, row_deeds};
 ghost use Rattle.like_shared.specs.Shared.{AreLogged, HasSameLogs, IsClient, IsDriverLogged, IsLogged, held_by, holds, pages_of, seats_of};
 
 use crate::driver::{DriverCall, DriverPass, try_drive};
@@ -153,7 +153,7 @@ impl Client {
         requires client { IsClient service.now self.old }
         requires seat { seat < seats_of service.now }
         ensures client { IsClient service.now self.new }
-        ensures log { AreLogged self.old seat (deeds_of_rows rows.now answers.new) result self.new }
+        ensures log { AreLogged self.old seat (row_deeds deeds_of_call rows.now answers.new) result self.new }
         ensures answers { MatchResult result (AreAnswered Ok (λ a. a) rows.now answers.old answers.new)
             (λ _. answers.new ≡ answers.old) }
     {
@@ -171,7 +171,7 @@ impl Client {
         requires client { IsClient service.now self.old }
         requires seat { seat < seats_of service.now }
         ensures client { IsClient service.now self.new }
-        ensures log { AreLogged self.old seat (deeds_of_likes likes.now) result self.new }
+        ensures log { IsLogged self.old seat (deed.LikeRow likes.now) result self.new }
         ensures told { IfOk result (IsToldOf likes.now) }
     {
         self.row(service, seat, &LikeRow { likes }, &mut [])

@@ -48,7 +48,7 @@ pub enum HubNotClosed {
 }
 
 impl Hub {
-    ghost use Rattle.like_shared.specs.Hubs.{IsAtDesk, IsClosedHub, IsClosedWith, IsHubNotClosed, IsNotClosedWith, done_for};
+    ghost use Rattle.like_shared.specs.Hubs.{IsAtDesk, IsClosedBy, IsHubNotClosed, IsKeeperAfter, IsLastKeeper, IsNotClosedBy, done_for};
 
     /// Opens a service in phase 0, with its desk. No client and no card is out yet.
     pub fn open(alloc: Global, opening: &Opening) -> Result<(Hub, Cards), OpenError>
@@ -212,7 +212,7 @@ impl Hub {
     /// may be out.
     pub fn close(self, counts: &mut [u64]) -> Result<(), HubNotClosed>
         requires { length counts.old ≡ pages_of self.service }
-        ensures closed { OnOk result (IsClosedHub self counts.new) }
+        ensures closed { OnOk result (IsClosedBy (IsLastKeeper self) self counts.new) }
         ensures not { IfErr result (IsHubNotClosed self) }
         ensures unchanged { IfErr result (λ _. counts.new ≡ counts.old) }
     {
@@ -236,8 +236,8 @@ impl Hub {
         requires cards { IsKeeper self.desk cards }
         requires back { cards.out ≡ 0 }
         requires places { length counts.old ≡ pages_of self.service }
-        ensures closed { OnOk result (IsClosedWith self (told_of cards) counts.new) }
-        ensures not { IfErr result (IsNotClosedWith self (told_of cards)) }
+        ensures closed { OnOk result (IsClosedBy (IsKeeperAfter self (told_of cards)) self counts.new) }
+        ensures not { IfErr result (IsNotClosedBy (IsKeeperAfter self (told_of cards)) self) }
         ensures unchanged { IfErr result (λ _. counts.new ≡ counts.old) }
     {
         let Hub {

@@ -1,9 +1,9 @@
 //! Rows of calls, rows of likes, and last likes of a seat.
 ghost use Rattle.std.specs.Prelude.{◌≡◌, [], ◌∷◌, IsFalse, Ok};
 ghost use Rattle.told_lock.specs.Deeds.{HasRun};
-ghost use Rattle.like_shared.specs.declared.deed.SeatDeed.TheVariants.{Lasts};
+ghost use Rattle.like_shared.specs.declared.deed.SeatDeed.TheVariants as deed;
 ghost use Rattle.like_shared.specs.Deeds.{SeatDoes};
-ghost use Rattle.like_shared.specs.Rows.{AreAnswered, IsToldOf, deeds_of_likes, deeds_of_rows};
+ghost use Rattle.like_shared.specs.Rows.{AreAnswered, IsToldOf, deeds_of_call, row_deeds};
 
 use crate::seat_row::SeatRow;
 use like_board::SharedPost;
@@ -22,7 +22,7 @@ impl<'a> SeatRow for CallRow<'a> {
 
     type Written = Answer;
 
-    ghost deeds = { λ row done answers. deeds_of_rows row.calls.now answers done };
+    ghost deeds = { λ row done answers. row_deeds deeds_of_call row.calls.now answers done };
 
     ghost writes = { λ row done old new. AreAnswered Ok (λ a. a) row.calls.now old new done };
 
@@ -33,7 +33,7 @@ impl<'a> SeatRow for CallRow<'a> {
 
 // Makes the calls of a row at a seat.
 fn run_calls(seat: &mut Seat, rows: &[Call], answers: &mut [Answer]) -> usize
-    ensures run { HasRun SeatDoes seat.old (deeds_of_rows rows.now answers.new result) seat.new }
+    ensures run { HasRun SeatDoes seat.old (row_deeds deeds_of_call rows.now answers.new result) seat.new }
     ensures answers { AreAnswered Ok (λ a. a) rows.now answers.old answers.new result }
 {
     seat.run(rows, answers)
@@ -50,7 +50,7 @@ impl<'a> SeatRow for LikeRow<'a> {
 
     type Written = u64;
 
-    ghost deeds = { λ row told _. deeds_of_likes row.likes.now told };
+    ghost deeds = { λ row told _. deed.LikeRow row.likes.now told ∷ [] };
 
     ghost writes = { λ row told old new. IsToldOf row.likes.now told };
 
@@ -61,7 +61,7 @@ impl<'a> SeatRow for LikeRow<'a> {
 
 // Counts the likes of a row at a seat.
 fn count_likes(seat: &mut Seat, likes: &[LikePair]) -> RowAnswer
-    ensures run { HasRun SeatDoes seat.old (deeds_of_likes likes.now result) seat.new }
+    ensures run { HasRun SeatDoes seat.old (deed.LikeRow likes.now result ∷ []) seat.new }
     ensures told { IsToldOf likes.now result }
 {
     seat.like_row(likes)
@@ -78,7 +78,7 @@ impl SeatRow for LastsRow {
 
     type Written = u32;
 
-    ghost deeds = { λ row is_done pages. Lasts row.from pages is_done ∷ [] };
+    ghost deeds = { λ row is_done pages. deed.Lasts row.from pages is_done ∷ [] };
 
     ghost writes = { λ _ is_done old new. IsFalse is_done → new ≡ old };
 
@@ -89,7 +89,7 @@ impl SeatRow for LastsRow {
 
 // Tells last likes of a seat, and leaves it as it is.
 fn tell_lasts(seat: &mut Seat, from: u32, pages: &mut [u32]) -> bool
-    ensures run { HasRun SeatDoes seat.old (Lasts from pages.new result ∷ []) seat.new }
+    ensures run { HasRun SeatDoes seat.old (deed.Lasts from pages.new result ∷ []) seat.new }
     ensures rest { IsFalse result → pages.new ≡ pages.old }
 {
     if !seat.has_users(from, pages.len()) {

@@ -1,5 +1,5 @@
 use Rattle.std.proofs.Common.{refl}
-use Rattle.like_c.specs.Held.{at_some}
+use Rattle.like_c.specs.Asks.{at_some}
 use Rattle.like_c.proofs.likes_phase_now.Goals as goal
 
 pub returns-in-Some : goal.returns-in-Some

@@ -4,7 +4,7 @@ ghost use Rattle.std.specs.List.{AllZip};
 ghost use Rattle.told_lock.specs.Deeds.{named};
 ghost use Rattle.told_lock.specs.Rights.{IsKeeper, name_of, seen_of, seens_of, told_of};
 ghost use Rattle.like_shared.specs.Passes.{IsReady, log_at, seen_at};
-ghost use Rattle.like_shared.specs.Shared.{IsClient, IsServiceKeeper, clients_out, driver_log, driver_seen, driver_told, held_by, seat_logs, seats_of, seats_seen, seats_told, with_logs, with_seen};
+ghost use Rattle.like_shared.specs.Shared.{IsClient, IsServiceKeeper, clients_out, driver_log, held_by, seat_logs, seats_of, seats_seen, seats_told, with_logs, with_seen};
 
 use super::{SeatKeeper, ServiceKeeper, SharedService};
 use crate::client::Client;
@@ -24,9 +24,9 @@ impl SharedService {
         ensures out { MatchResult result (λ _. clients_out keeper.new ≡ clients_out keeper.old + 1)
             (λ _. keeper.new ≡ keeper.old) }
         ensures told { seats_told keeper.new ≡ seats_told keeper.old }
-        ensures driver_told { driver_told keeper.new ≡ driver_told keeper.old }
+        ensures driver_told { told_of keeper.new.driver ≡ told_of keeper.old.driver }
         ensures seen { seats_seen keeper.new ≡ seats_seen keeper.old }
-        ensures driver_seen { driver_seen keeper.new ≡ driver_seen keeper.old }
+        ensures driver_seen { seens_of keeper.new.driver ≡ seens_of keeper.old.driver }
         ensures client { IfOk result (λ client. IsClient self.now client) }
         ensures logs { IfOk result (λ client. seat_logs client ≡ replicate (seats_of self.now) []) }
         ensures driver_log { IfOk result (λ client. driver_log client ≡ []) }
@@ -49,10 +49,10 @@ impl SharedService {
         ensures keeper { IsServiceKeeper self.now keeper.new }
         ensures out { clients_out keeper.new ≡ clients_out keeper.old - 1 }
         ensures told { seats_told keeper.new ≡ with_logs (seats_told keeper.old) client.seats.items }
-        ensures driver_told { driver_told keeper.new
-            ≡ driver_told keeper.old ++ named (name_of client.driver) (driver_log client) }
+        ensures driver_told { told_of keeper.new.driver
+            ≡ told_of keeper.old.driver ++ named (name_of client.driver) (driver_log client) }
         ensures seen { seats_seen keeper.new ≡ with_seen (seats_seen keeper.old) client.seats.items }
-        ensures driver_seen { driver_seen keeper.new ≡ driver_seen keeper.old ++ seen_of client.driver ∷ [] }
+        ensures driver_seen { seens_of keeper.new.driver ≡ seens_of keeper.old.driver ++ seen_of client.driver ∷ [] }
     {
         let Client { seats, driver } = client;
         let out = keeper.driver.out;

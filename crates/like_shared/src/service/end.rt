@@ -3,7 +3,7 @@ ghost use Rattle.std.specs.Prelude.{◌≡◌, ◌≤◌, [], All, IfErr, MatchB
 ghost use Rattle.std.specs.List.{AllZip};
 ghost use Rattle.told_lock.specs.Rights.{IsKeeper, first_of, seens_of, told_of};
 ghost use Rattle.like_shared.specs.Closed.{AreEndsOf, IsClosedShared, IsNotClosed};
-ghost use Rattle.like_shared.specs.Shared.{AreBack, IsServiceKeeper, first_driver};
+ghost use Rattle.like_shared.specs.Shared.{IsServiceKeeper, first_driver};
 
 use super::{NotClosed, SeatKeeper, ServiceKeeper, SharedService};
 use crate::laws::shared_services_are_strict;

@@ -1,5 +1,5 @@
 use Rattle.std.proofs.Common.{refl}
-use Rattle.like_c.specs.Held.{at_some}
+use Rattle.like_c.specs.Asks.{at_some}
 use Rattle.like_c.proofs.client_calls.likes_client_retire.Goals as goal
 
 pub returns : goal.returns

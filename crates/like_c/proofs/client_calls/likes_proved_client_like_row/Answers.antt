@@ -1,5 +1,5 @@
 use Rattle.std.proofs.Common.{Ok, Err, refl}
-use Rattle.like_c.specs.Held.{at_some}
+use Rattle.like_c.specs.Asks.{at_some}
 use Rattle.like_c.proofs.client_calls.likes_proved_client_like_row.Goals as goal
 
 pub returns-in-Ok : goal.returns-in-Ok

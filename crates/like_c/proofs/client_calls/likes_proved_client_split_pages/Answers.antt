@@ -1,13 +1,13 @@
 use Rattle.std.proofs.Common.{Ok, Err, refl}
-use Rattle.like_c.specs.Held.{at_some}
+use Rattle.like_c.specs.Asks.{at_some}
 use Rattle.like_c.proofs.client_calls.likes_proved_client_split_pages.Goals as goal
 
 pub returns-in-Ok : goal.returns-in-Ok
 returns-in-Ok c =
     at_some _ _ c.in-Some.ensures.client
-    (Ok c.in-Ok.many, c.in-Ok.ensures.calls, (refl, refl, c.in-Ok.ensures.places)) refl
+    (Ok c.in-Ok.many, c.in-Ok.ensures.calls, (refl, (refl, c.in-Ok.ensures.places))) refl
 
 pub returns-in-Err : goal.returns-in-Err
 returns-in-Err c =
     at_some _ _ c.in-Some.ensures.client
-    (Err c.in-Err.refused, c.in-Err.ensures.calls, (refl, refl, c.in-Err.ensures.places)) refl
+    (Err c.in-Err.refused, c.in-Err.ensures.calls, (refl, (refl, c.in-Err.ensures.places))) refl

@@ -1,13 +1,15 @@
-use Rattle.std.proofs.Common.{refl, rules}
-use Rattle.like_c.specs.Sharing.{client_made, client_none}
+use Rattle.std.proofs.Common.{Ok, Err, refl, rules}
+use Rattle.like_c.specs.Asks.{at_some, fills, makes_none}
 use Rattle.like_c.proofs.shared_calls.likes_proved_client_open.Goals as goal
 
 pub returns-in-Ok : goal.returns-in-Ok
 returns-in-Ok c =
-    client_made c.in-Some.boxed.now _ c.in-Ok.made.value (search rules) c.in-Some.ensures.service c.in-Ok.ensures.keeps
-    c.in-Ok.ensures.out c.in-Ok.ensures.made refl refl c.put.ensures
+    let made = c.in-Ok.ensures in
+    fills c.in-Ok.made.value (search rules) (at_some _ _ c.in-Some.ensures.service
+    (Ok c.in-Ok.made.value, (made.keeps, made.out, made.made), refl) refl) refl c.put.ensures
 
 pub returns-in-Err : goal.returns-in-Err
 returns-in-Err c =
-    client_none c.in-Some.boxed.now _ (search rules) c.in-Some.ensures.service c.in-Err.ensures.keeps
-    c.in-Err.ensures.out c.in-Err.ensures.refused refl (search rules)
+    let told = c.in-Err.ensures in
+    makes_none (search rules) (at_some _ _ c.in-Some.ensures.service
+    (Err c.in-Err.refused, (told.keeps, told.out, told.refused), refl) refl) (search rules)

@@ -2,7 +2,7 @@ use Rattle.std.proofs.Common.{length, ap, refl, subst, sym, ◌≡◌, ◌∙◌
 use Rattle.std.specs.Arc.{arc_value}
 use Rattle.std.proofs.lemmas.Option.{same_Some}
 use Rattle.like_shared.specs.declared.hub.Hub.{Hub}
-use Rattle.like_shared.specs.Hubs.{IsClosedHub}
+use Rattle.like_shared.specs.Hubs.{IsClosedBy, IsLastKeeper}
 use Rattle.like_shared.specs.Shared.{pages_of}
 use Rattle.like_c.specs.Sharing.{close_lost, close_pages, close_stays, closes_hub, shared_hub}
 use Rattle.like_c.proofs.shared_calls.likes_proved_shared_close.Goals as goal
@@ -31,7 +31,7 @@ returns-in-Ok c =
     ap shared_hub (c.into_inner.ensures ∙ sym (same_Some _ _ c.in-Some-take.ensures.taken))
     ∙ ap arc_value c.check_end.ensures.keeps.hub in
     closes_hub c.in-Some.boxed.now c.in-Some.ensures.service
-    (subst (λ (h : Hub). IsClosedHub h c.end.new.counts) same c.in-Ok.ensures.closed) refl c.in-Some-take.ensures.left
+    (subst (λ (h : Hub). IsClosedBy (IsLastKeeper h) h c.end.new.counts) same c.in-Ok.ensures.closed) refl c.in-Some-take.ensures.left
 
 pub returns-in-Err-end : goal.returns-in-Err-end
 returns-in-Err-end c =

@@ -1,6 +1,5 @@
-use Rattle.std.proofs.Common.{ap, refl, ◌∙◌}
+use Rattle.std.proofs.Common.{ap, Ok, Err, refl, ◌∙◌}
 use Rattle.like_shared.specs.declared.hub.Hub.{Hub}
-use Rattle.like_c.specs.Clients.{driven, driver_busy}
 use Rattle.like_c.proofs.Owners.{client-at}
 use Rattle.like_c.proofs.boxed_client.BoxedClient.drive.Goals as goal
 
@@ -10,8 +9,8 @@ drive-requires-clause-client g c =
 
 pub returns-in-Ok-clause-calls : goal.returns-in-Ok-clause-calls
 returns-in-Ok-clause-calls g c =
-    driven c.in-Ok.answer refl c.in-Ok.ensures.log (record { hub = refl; card = refl })
+    (Ok c.in-Ok.answer, refl, c.in-Ok.ensures.log, record { hub = refl; card = refl })
 
 pub returns-in-Err-clause-calls : goal.returns-in-Err-clause-calls
 returns-in-Err-clause-calls g c =
-    driver_busy c.in-Err.field-0 refl c.in-Err.ensures.log (record { hub = refl; card = refl })
+    (Err c.in-Err.field-0, refl, c.in-Err.ensures.log, record { hub = refl; card = refl })

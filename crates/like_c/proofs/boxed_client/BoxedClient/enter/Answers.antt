@@ -1,16 +1,19 @@
-use Rattle.std.proofs.Common.{Bool, subst, sym}
-use Rattle.std.specs.Prelude.{MatchBool}
+use Rattle.std.proofs.Common.{Bool, Option, subst, sym}
+use Rattle.std.specs.Prelude.{IfSome, MatchBool}
 use Rattle.told_lock.specs.Rights.{IsIdle}
+use Rattle.told_lock.specs.declared.pass.Pass.{Pass}
+use Rattle.like_shared.specs.declared.desk.DeskDeed.{DeskDeed}
 use Rattle.like_shared.specs.declared.hub.Hub.{Hub}
+use Rattle.like_shared.specs.declared.service.ServiceKeeper.{ServiceKeeper}
 use Rattle.like_shared.specs.Hubs.{IsAtDesk}
-use Rattle.like_c.specs.Cards.{IsCard}
 use Rattle.like_c.specs.Clients.{hub_of}
 use Rattle.like_c.proofs.Owners.{card-of}
 use Rattle.like_c.proofs.boxed_client.BoxedClient.enter.Goals as goal
 
 pub enter-requires : goal.enter-requires
 enter-requires c =
-    let own = subst (IsCard (hub_of c.args.self.now)) (sym c.in-Some.ensures.value) (card-of c.args.self.now) in
+    let own = subst (λ (card : Option (Pass ServiceKeeper DeskDeed)). IfSome card (IsIdle (hub_of c.args.self.now).desk))
+    (sym c.in-Some.ensures.value) (card-of c.args.self.now) in
     subst (λ (h : Hub). IsIdle h.desk c.in-Some.card) (sym c.deref.ensures) own
 
 pub returns-then-enter-clause-card : goal.returns-then-enter-clause-card

@@ -1,8 +1,8 @@
-use Rattle.std.proofs.Common.{ap, arith, refl, ◌∙◌}
+use Rattle.std.proofs.Common.{ap, arith, Ok, Err, refl, ◌∙◌}
 use Rattle.like_shared.specs.declared.hub.Hub.{Hub}
 use Rattle.like_shared.specs.Shared.{seats_of}
-use Rattle.like_c.specs.Clients.{busy, made}
-use Rattle.like_c.proofs.Owners.{client-at}
+use Rattle.like_c.specs.Asks.{is_not, is_so}
+use Rattle.like_c.proofs.Owners.{client-at, same-box}
 use Rattle.like_c.proofs.boxed_client.BoxedClient.row.Goals as goal
 
 pub row-requires-clause-client : goal.row-requires-clause-client
@@ -10,11 +10,16 @@ row-requires-clause-client g c =
     client-at c.args.self.now _ (c.service-2.ensures ∙ ap (λ (h : Hub). h.service) c.deref-2.ensures)
 
 pub returns-in-Ok-clause-calls : goal.returns-in-Ok-clause-calls
-returns-in-Ok-clause-calls g c = made c.in-Ok.answer
+returns-in-Ok-clause-calls g c = is_so
     (omega (arith, c.if-seat-seat_count.false, c.seat_count.ensures ∙ ap seats_of (c.service.ensures ∙ ap (λ (h : Hub). h.service) c.deref.ensures)))
-    refl c.in-Ok.ensures.log (record { hub = refl; card = refl })
+    (Ok c.in-Ok.answer, refl, c.in-Ok.ensures.log, record { hub = refl; card = refl })
 
 pub returns-in-Err-clause-calls : goal.returns-in-Err-clause-calls
-returns-in-Err-clause-calls g c = busy c.in-Err.field-0
+returns-in-Err-clause-calls g c = is_so
     (omega (arith, c.if-seat-seat_count.false, c.seat_count.ensures ∙ ap seats_of (c.service.ensures ∙ ap (λ (h : Hub). h.service) c.deref.ensures)))
-    refl c.in-Err.ensures.log (record { hub = refl; card = refl })
+    (Err c.in-Err.field-0, refl, c.in-Err.ensures.log, record { hub = refl; card = refl })
+
+pub returns-then-seat-seat_count-clause-calls : goal.returns-then-seat-seat_count-clause-calls
+returns-then-seat-seat_count-clause-calls g c = is_not
+    (λ less. omega (arith, less, c.if-seat-seat_count.true, c.seat_count.ensures ∙ ap seats_of (c.service.ensures ∙ ap (λ (h : Hub). h.service) c.deref.ensures)))
+    refl (same-box _ _ _)

@@ -1,8 +1,8 @@
 use Rattle.std.proofs.Common.{ap, arith, refl, ◌∙◌}
 use Rattle.like_shared.specs.declared.hub.Hub.{Hub}
 use Rattle.like_shared.specs.Shared.{seats_of}
-use Rattle.like_c.specs.Clients.{unlocks}
-use Rattle.like_c.proofs.Owners.{client-at}
+use Rattle.like_c.specs.Asks.{is_not, is_so}
+use Rattle.like_c.proofs.Owners.{client-at, same-box}
 use Rattle.like_c.proofs.boxed_client.BoxedClient.unlock.Goals as goal
 
 pub unlock-requires-clause-client : goal.unlock-requires-clause-client
@@ -10,6 +10,11 @@ unlock-requires-clause-client c =
     client-at c.args.self.now _ (c.service-2.ensures ∙ ap (λ (h : Hub). h.service) c.deref-2.ensures)
 
 pub returns : goal.returns
-returns c = unlocks
+returns c = is_so
     (omega (arith, c.if-seat-seat_count.false, c.seat_count.ensures ∙ ap seats_of (c.service.ensures ∙ ap (λ (h : Hub). h.service) c.deref.ensures)))
-    refl c.unlock.ensures.held c.unlock.ensures.logs (record { hub = refl; card = refl })
+    ((refl, c.unlock.ensures.held), c.unlock.ensures.logs, record { hub = refl; card = refl })
+
+pub returns-then-seat-seat_count : goal.returns-then-seat-seat_count
+returns-then-seat-seat_count c = is_not
+    (λ less. omega (arith, less, c.if-seat-seat_count.true, c.seat_count.ensures ∙ ap seats_of (c.service.ensures ∙ ap (λ (h : Hub). h.service) c.deref.ensures)))
+    refl (same-box _ _ _)

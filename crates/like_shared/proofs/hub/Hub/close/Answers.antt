@@ -9,12 +9,7 @@ close-requires-clause-keeper c =
     let h = c.args.self in stays-kept h.service (first_of h.desk) _ it.0 (kept h) it.1
 
 pub returns-in-Ok-close-clause-closed : goal.returns-in-Ok-close-clause-closed
-returns-in-Ok-close-clause-closed c = record {
-  keeper = c.in-Ok.keeper;
-  last = record { done = c.in-Ok.ensures.0; run = c.in-Ok.ensures.1 };
-  closed = c.in-Ok-close.ensures.closed;
-}
+returns-in-Ok-close-clause-closed c = (c.in-Ok.keeper, c.in-Ok.ensures, c.in-Ok-close.ensures.closed)
 
 pub returns-in-Err-clause-not : goal.returns-in-Err-clause-not
-returns-in-Err-clause-not c =
-    (c.in-Ok.keeper, record { done = c.in-Ok.ensures.0; run = c.in-Ok.ensures.1 }, c.in-Err.ensures.not)
+returns-in-Err-clause-not c = (c.in-Ok.keeper, c.in-Ok.ensures, c.in-Err.ensures.not)

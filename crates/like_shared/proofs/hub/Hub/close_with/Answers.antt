@@ -2,7 +2,7 @@ use Rattle.std.proofs.lemmas.Result.{IfErr-weaker, on_ok_weaker}
 use Rattle.told_lock.specs.Deeds.{deeds_in}
 use Rattle.told_lock.specs.Rights.{first_of, told_of}
 use Rattle.like_shared.specs.Closed.{IsNotClosed}
-use Rattle.like_shared.specs.Hubs.{IsNotClosedWith}
+use Rattle.like_shared.specs.Hubs.{IsKeeperAfter, IsNotClosedBy}
 use Rattle.like_shared.proofs.Desks.{stays-kept}
 use Rattle.like_shared.proofs.Kept.{kept}
 use Rattle.like_shared.proofs.hub.Hub.close_with.Goals as goal
@@ -16,11 +16,11 @@ close-requires-clause-keeper c =
 pub returns-clause-closed : goal.returns-clause-closed
 returns-clause-closed c =
     on_ok_weaker c.close.result
-    (λ closed. record { keeper = c.close-keeper.result; seen = _; last = c.close-keeper.ensures; closed = closed })
+    (λ closed. (c.close-keeper.result, (_, c.close-keeper.ensures), closed))
     c.close.ensures.closed
 
 pub returns-clause-not : goal.returns-clause-not
 returns-clause-not c =
     IfErr-weaker c.close.result (IsNotClosed c.args.self.service c.close-keeper.result)
-    (IsNotClosedWith c.args.self (told_of c.args.cards))
-    (λ why is. (c.close-keeper.result, _, c.close-keeper.ensures, is)) c.close.ensures.not
+    (IsNotClosedBy (IsKeeperAfter c.args.self (told_of c.args.cards)) c.args.self)
+    (λ why is. (c.close-keeper.result, (_, c.close-keeper.ensures), is)) c.close.ensures.not

@@ -1,7 +1,7 @@
 use Rattle.std.proofs.Common.{◌≡◌, ◌+◌, Result, Ok, Err, MatchResult, ap, ◌∙◌, subst}
 use Rattle.std.specs.declared.alloc.AllocError.{AllocError}
 use Rattle.told_lock.specs.Lending.{pass_with}
-use Rattle.told_lock.specs.Rights.{IsHolding}
+use Rattle.told_lock.specs.Rights.{IsHolding, seens_of, told_of}
 use Rattle.told_lock.specs.declared.pass.Pass.{Pass}
 use Rattle.like_shared.specs.declared.client.Client.{Client}
 use Rattle.like_shared.specs.declared.desk.DeskDeed.{DeskDeed}
@@ -10,7 +10,7 @@ use Rattle.like_shared.specs.declared.hub.Hub.{Hub}
 use Rattle.like_shared.specs.declared.service.ServiceKeeper.{ServiceKeeper}
 use Rattle.like_shared.specs.Desk.{KeepsTold}
 use Rattle.like_shared.specs.Hubs.{IsAtDesk}
-use Rattle.like_shared.specs.Shared.{IsServiceKeeper, clients_out, driver_seen, driver_told, seats_seen, seats_told}
+use Rattle.like_shared.specs.Shared.{IsServiceKeeper, clients_out, seats_seen, seats_told}
 use Rattle.like_shared.proofs.Desks.{as-held, as-written}
 use Rattle.like_shared.proofs.hub.Hub.make_client.Goals as goal
 
@@ -23,8 +23,8 @@ HasMade h card result = MatchResult result
 has-made : (h : Hub) (card : Pass ServiceKeeper DeskDeed) (k old l : ServiceKeeper) (result : Result Client AllocError)
     → IsHolding h.desk card k k → IsServiceKeeper h.service k → old ≡ k → IsServiceKeeper h.service l
     → MatchResult result (λ _. clients_out l ≡ clients_out old + 1) (λ _. l ≡ old)
-    → seats_told l ≡ seats_told old → driver_told l ≡ driver_told old → seats_seen l ≡ seats_seen old
-    → driver_seen l ≡ driver_seen old → HasMade h (pass_with card l) result
+    → seats_told l ≡ seats_told old → told_of l.driver ≡ told_of old.driver → seats_seen l ≡ seats_seen old
+    → seens_of l.driver ≡ seens_of old.driver → HasMade h (pass_with card l) result
 has-made h card k old l (Ok client) holding is same after out told driver seen driver-too = (
   k,
   l,
@@ -34,9 +34,9 @@ has-made h card k old l (Ok client) holding is same after out told driver seen d
   (
     out ∙ ap (λ x. clients_out x + 1) same,
     told ∙ ap seats_told same,
-    driver ∙ ap driver_told same,
+    driver ∙ ap (λ (k : ServiceKeeper). told_of k.driver) same,
     seen ∙ ap seats_seen same,
-    driver-too ∙ ap driver_seen same,
+    driver-too ∙ ap (λ (k : ServiceKeeper). seens_of k.driver) same,
   ),
 )
 has-made h card k old l (Err why) holding is same after out told driver seen driver-too =

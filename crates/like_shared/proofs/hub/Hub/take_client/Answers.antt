@@ -1,8 +1,8 @@
 use Rattle.std.proofs.Common.{◌-◌, [], ◌∷◌, ap, ◌∙◌, ◌++◌}
 use Rattle.told_lock.specs.Deeds.{named}
-use Rattle.told_lock.specs.Rights.{name_of, seen_of}
+use Rattle.told_lock.specs.Rights.{name_of, seen_of, seens_of, told_of}
 use Rattle.like_shared.specs.declared.service.ServiceKeeper.{ServiceKeeper}
-use Rattle.like_shared.specs.Shared.{clients_out, driver_log, driver_seen, driver_told, seats_seen, seats_told, with_logs, with_seen}
+use Rattle.like_shared.specs.Shared.{clients_out, driver_log, seats_seen, seats_told, with_logs, with_seen}
 use Rattle.like_shared.proofs.Desks.{as-held, as-written}
 use Rattle.like_shared.proofs.hub.Hub.take_client.Goals as goal
 
@@ -26,8 +26,8 @@ returns-clause-parked c =
         told.out ∙ ap (λ (k : ServiceKeeper). clients_out k - 1) same,
         told.told ∙ ap (λ (k : ServiceKeeper). with_logs (seats_told k) client.seats.items) same,
         told.driver_told
-            ∙ ap (λ (k : ServiceKeeper). driver_told k ++ named (name_of client.driver) (driver_log client)) same,
+            ∙ ap (λ (k : ServiceKeeper). told_of k.driver ++ named (name_of client.driver) (driver_log client)) same,
         told.seen ∙ ap (λ (k : ServiceKeeper). with_seen (seats_seen k) client.seats.items) same,
-        told.driver_seen ∙ ap (λ (k : ServiceKeeper). driver_seen k ++ seen_of client.driver ∷ []) same,
+        told.driver_seen ∙ ap (λ (k : ServiceKeeper). seens_of k.driver ++ seen_of client.driver ∷ []) same,
       ),
     )
