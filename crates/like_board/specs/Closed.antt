@@ -1,19 +1,10 @@
 -- What is known of a board where all workers' seats were given back.
 use Rattle.std.specs.Prelude.{◌≡◌, ℕ, ◌^◌, ◌<◌, All, List, [], length, map, slice_index}
-use Rattle.like_core.specs.declared.log.LogEntry.{LogEntry}
-use Rattle.like_core.specs.declared.view.CoordSeatView.{CoordSeatView}
-use Rattle.like_core.specs.declared.view.View.{View}
-use Rattle.like_core.specs.declared.view.View.TheVariants.{Coord}
-use Rattle.like_core.specs.PhaseMasks.{mask_of, AreMasksOf}
-use Rattle.like_core.specs.WorkerState.{SawNoLater}
-use Rattle.like_core.specs.views.Views.{gathered_all}
-use Rattle.like_core.specs.views.Layout.{word_of}
-use Rattle.like_core.specs.views.PostOrder.{HavePlaces, IsOrderOf}
-use Rattle.like_core.specs.views.Posts.{last_count, posts_before}
-use Rattle.like_core.specs.views.Reads.{HaveBetween, IsCounted}
-use Rattle.like_board.specs.declared.worker_seat.WorkerSeat.{WorkerSeat}
-use Rattle.like_board.specs.Seats.{seat_view, AreAll}
-use Rattle.like_core.specs.declared.view.WorkerSeatView.{WorkerSeatView}
+use Rattle.like_core.specs.Types.{Coord, CoordSeatView, LogEntry, View, WorkerSeatView}
+use Rattle.like_core.specs.views.{Layout.word_of, Reads.HaveBetween, Reads.IsCounted, Views.gathered_all}
+use Rattle.like_core.specs.views.{PostOrder.HavePlaces, PostOrder.IsOrderOf, Posts.last_count, Posts.posts_before}
+use Rattle.like_core.specs.{PhaseMasks.AreMasksOf, PhaseMasks.mask_of, WorkerState.SawNoLater}
+use Rattle.like_board.specs.{Seats.AreAll, Seats.seat_view, declared.worker_seat.WorkerSeat.WorkerSeat}
 
 -- the coordinator's view, after each worker's seat was given back to it
 pub record HasAllBack (v : View) (c : CoordSeatView) (seats : List WorkerSeat) : Type 0 where

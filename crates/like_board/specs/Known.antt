@@ -1,14 +1,8 @@
 -- What a seat of a board knows: a worker's view, or the coordinator's.
 use Rattle.std.specs.Prelude.{[]}
-use Rattle.like_core.specs.declared.opening.Opening.{Opening}
-use Rattle.like_core.specs.declared.view.WorkerSeatView.{WorkerSeatView}
-use Rattle.like_core.specs.declared.view.CoordSeatView.{CoordSeatView}
-use Rattle.like_core.specs.declared.view.View.{View}
-use Rattle.like_core.specs.declared.view.View.TheVariants.{Coord, Worker, Spent}
 use Rattle.like_limits.specs.Buckets.{run_factor}
-use Rattle.like_core.specs.OpeningLimits.{run_limits}
-use Rattle.like_core.specs.views.Views.{fresh_coord}
-use Rattle.like_core.specs.Post.{fresh}
+use Rattle.like_core.specs.Types.{Coord, CoordSeatView, Opening, Spent, View, Worker, WorkerSeatView}
+use Rattle.like_core.specs.{OpeningLimits.run_limits, Post.fresh, views.Views.fresh_coord}
 
 -- the opening of a view that is of no board
 abbrev pub nowhere : Opening

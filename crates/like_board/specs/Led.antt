@@ -1,18 +1,10 @@
 -- A board that a coordinator leads: what it tells, who leads it, and what a look and other steps leave.
 use Rattle.std.specs.Prelude.{◌≡◌, ℕ, ◌≤◌, true, List, [], ⊤, slice_set}
-use mathlib.Core.Option.{some}
 use lib.ListN.{get_elem?}
-use Rattle.like_core.specs.declared.sight.CoordSight.{CoordSight}
-use Rattle.like_core.specs.declared.opening.Opening.{Opening}
-use Rattle.like_core.specs.declared.view.CoordSeatView.{CoordSeatView}
-use Rattle.like_core.specs.declared.view.View.{View}
-use Rattle.like_core.specs.declared.view.View.TheVariants.{Coord}
-use Rattle.like_core.specs.Phase.{IsSplit}
-use Rattle.like_core.specs.views.Actions.{Surveys}
-use Rattle.like_core.specs.views.Shows.{IsKnown}
-use Rattle.like_core.specs.views.Views.{looked_coord}
-use Rattle.like_board.specs.Own.{ShowsWorkers}
-use Rattle.like_board.specs.Seats.{BoardId}
+use mathlib.Core.Option.{some}
+use Rattle.like_core.specs.Types.{Coord, CoordSeatView, CoordSight, Opening, View}
+use Rattle.like_core.specs.{Phase.IsSplit, views.Actions.Surveys, views.Shows.IsKnown, views.Views.looked_coord}
+use Rattle.like_board.specs.{Own.ShowsWorkers, Seats.BoardId}
 
 -- what a board tells: one that threads share tells which it is, and one that a thread owns what all its seats know
 pub data BoardView : Type 0 where

@@ -1,13 +1,10 @@
 -- A board and a seat that are lent for a turn.
 use Rattle.std.specs.Prelude.{◌≡◌, slice_set}
 use lib.ListN.{get_elem?}
-use Rattle.like_core.specs.declared.view.View.{View}
-use Rattle.like_core.specs.declared.view.View.TheVariants.{Worker}
-use Rattle.like_board.specs.declared.own_board.OwnBoard.{OwnBoard}
-use Rattle.like_board.specs.declared.own_board.worker_seat.OwnWorkerSeat.{OwnWorkerSeat}
-use Rattle.like_board.specs.Known.{worker_view_of}
-use Rattle.like_board.specs.Lent.{HasFound, HasLooked}
+use Rattle.like_core.specs.Types.{View, Worker}
 use Rattle.like_board.specs.Own.{Knows, own_place, own_view, own_views}
+use Rattle.like_board.specs.declared.own_board.{OwnBoard.OwnBoard, worker_seat.OwnWorkerSeat.OwnWorkerSeat}
+use Rattle.like_board.specs.{Known.worker_view_of, Lent.HasFound, Lent.HasLooked}
 
 -- they are lent since the seat knew this: each look that it has made shows the phase as the coordinator knows it, and
 -- each step at a page found its count

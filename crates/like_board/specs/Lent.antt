@@ -1,18 +1,11 @@
 -- What a post at a board that one thread owns is told by numbers: what all other seats know, its own place, and what its
 -- own seat knew when the board was lent to it.
 use Rattle.std.specs.Prelude.{◌≡◌, ℕ, ◌+◌, ◌≤◌, All, List, [], ◌∷◌, ◌++◌, drop, length, slice_set}
-use base.Stored.{Gv, gnil, gnum, gcons, Coded, coded_list, coded×, coded_ℕ}
-use mathlib.Core.Option.{Option, some}
+use base.Stored.{Coded, Gv, coded_list, coded_ℕ, coded×, gcons, gnil, gnum}
 use lib.ListN.{get_elem?}
-use Rattle.like_core.specs.declared.page_step.PageStep.{PageStep}
-use Rattle.like_core.specs.declared.sight.Sight.{Sight}
-use Rattle.like_core.specs.declared.view.WorkerSeatView.{WorkerSeatView}
-use Rattle.like_core.specs.declared.view.CoordSeatView.{CoordSeatView}
-use Rattle.like_core.specs.declared.view.View.{View}
-use Rattle.like_core.specs.declared.view.View.TheVariants.{Coord, Spent}
-use Rattle.like_core.specs.contracts.view.View.{the_row}
-use Rattle.like_core.specs.PageSteps.{likes_in}
-use Rattle.like_core.specs.views.Places.{count_after}
+use mathlib.Core.Option.{Option, some}
+use Rattle.like_core.specs.Types.{Coord, CoordSeatView, PageStep, Sight, Spent, View, WorkerSeatView}
+use Rattle.like_core.specs.{PageSteps.likes_in, contracts.view.View.the_row, views.Places.count_after}
 
 -- a value of the logic, written as numbers
 unfoldable pub numbers_of : Gv → List ℕ

@@ -1,9 +1,8 @@
 -- A post at a board that is lent to it.
 use Rattle.std.specs.Prelude.{ℕ, List, ◌∷◌}
-use Rattle.like_core.specs.declared.view.WorkerSeatView.{WorkerSeatView}
-use Rattle.like_board.specs.declared.own_board.lent_post.LentPost.{LentPost}
-use Rattle.like_board.specs.Lent.{lent_board}
+use Rattle.like_core.specs.Types.{WorkerSeatView}
 use Rattle.like_board.specs.Own.{own_place, own_view, own_views}
+use Rattle.like_board.specs.{Lent.lent_board, declared.own_board.lent_post.LentPost.LentPost}
 
 -- what its seat knows
 abbrev pub lent_view : LentPost → WorkerSeatView

@@ -1,9 +1,6 @@
 -- The views of all seats of a new board that one thread owns.
 use Rattle.std.specs.Prelude.{ℕ, zero, suc, List, [], ◌∷◌, ◌++◌}
-use Rattle.like_core.specs.declared.opening.Opening.{Opening}
-use Rattle.like_core.specs.declared.view.View.{View}
-use Rattle.like_core.specs.declared.view.View.TheVariants.{Coord, Worker}
-use Rattle.like_core.specs.Post.{fresh}
+use Rattle.like_core.specs.{Post.fresh, Types.Coord, Types.Opening, Types.View, Types.Worker}
 use Rattle.like_board.specs.Rule.{opened_coord}
 
 -- the views of this many workers, in order

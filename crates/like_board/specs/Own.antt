@@ -1,24 +1,13 @@
 -- A board that one thread owns, and its seats.
 use Rattle.std.specs.Prelude.{◌≡◌, ◌↔◌, ℕ, ◌+◌, true, List, Some, slice_get, slice_set}
-use mathlib.Core.Option.{some}
 use lib.ListN.{get_elem?}
+use mathlib.Core.Option.{some}
+use Rattle.like_core.specs.Types.{Coord, CoordSeatView, CoordSight, Gone, Opening, Sight, View, Worker, WorkerSeatView}
+use Rattle.like_core.specs.{Post.fresh, WorkerState.IsIn, views.Places.count_after}
 use Rattle.own_table.specs.Table.{key_of, views_of}
-use Rattle.like_core.specs.declared.sight.Sight.{Sight}
-use Rattle.like_core.specs.declared.sight.CoordSight.{CoordSight}
-use Rattle.like_core.specs.declared.opening.Opening.{Opening}
-use Rattle.like_core.specs.declared.worker_state.WorkerState.TheVariants.{Gone}
-use Rattle.like_core.specs.declared.view.WorkerSeatView.{WorkerSeatView}
-use Rattle.like_core.specs.declared.view.CoordSeatView.{CoordSeatView}
-use Rattle.like_core.specs.declared.view.View.{View}
-use Rattle.like_core.specs.declared.view.View.TheVariants.{Coord, Worker}
-use Rattle.like_core.specs.Post.{fresh}
-use Rattle.like_core.specs.WorkerState.{IsIn}
-use Rattle.like_core.specs.views.Places.{count_after}
-use Rattle.like_board.specs.declared.own_board.OwnBoard.{OwnBoard}
-use Rattle.like_board.specs.declared.own_board.coord_seat.OwnCoordSeat.{OwnCoordSeat}
-use Rattle.like_board.specs.declared.own_board.worker_seat.OwnWorkerSeat.{OwnWorkerSeat}
-use Rattle.like_board.specs.Known.{worker_view_of, coord_view_of}
-use Rattle.like_board.specs.Rule.{opening_of}
+use Rattle.like_board.specs.declared.own_board.{OwnBoard.OwnBoard, coord_seat.OwnCoordSeat.OwnCoordSeat}
+use Rattle.like_board.specs.declared.own_board.{worker_seat.OwnWorkerSeat.OwnWorkerSeat}
+use Rattle.like_board.specs.{Known.coord_view_of, Known.worker_view_of, Rule.opening_of}
 
 -- the board's opening
 abbrev pub own_opening : OwnBoard → Opening

@@ -1,12 +1,8 @@
 -- How a board that one thread owns ends.
 use Rattle.std.specs.Prelude.{List, [], ◌∷◌, length, map}
-use Rattle.like_core.specs.declared.view.View.{View}
-use Rattle.like_core.specs.declared.view.View.TheVariants.{Coord, Worker}
-use Rattle.like_core.specs.declared.view.CoordSeatView.{CoordSeatView}
-use Rattle.like_core.specs.views.Layout.{word_of}
+use Rattle.like_core.specs.{Types.Coord, Types.CoordSeatView, Types.View, Types.Worker, views.Layout.word_of}
 use Rattle.like_board.specs.declared.own_board.worker_seat.OwnWorkerSeat.{OwnWorkerSeat}
-use Rattle.like_board.specs.declared.worker_seat.WorkerSeat.{WorkerSeat}
-use Rattle.like_board.specs.Own.{own_view}
+use Rattle.like_board.specs.{Own.own_view, declared.worker_seat.WorkerSeat.WorkerSeat}
 
 -- a seat that knows the same, at a board that threads share
 abbrev pub as_shared : OwnWorkerSeat → WorkerSeat

@@ -1,32 +1,18 @@
 -- What the looks of a worker and of the coordinator tell of a phase word, and what each other step tells. The number of a
 -- look, a return or a step at a page is in the view after it.
 use Rattle.std.specs.Prelude.{◌≡◌, ◌≢◌, ℕ, ◌^◌, ◌<◌, ◌≤◌, true, [], length, slice_index}
-use Rattle.like_core.specs.declared.worker_state.WorkerState.{WorkerState}
-use Rattle.like_core.specs.declared.log.LogEntry.TheVariants.{Saw}
-use Rattle.like_core.specs.declared.sight.Sight.{Sight}
-use Rattle.like_core.specs.declared.sight.CoordSight.{CoordSight}
-use Rattle.like_core.specs.declared.event.Event.TheVariants.{Look, CoordLook}
-use Rattle.like_core.specs.declared.shown.Shown.TheVariants.{Seen, Coord as CoordShown}
-use Rattle.like_core.specs.declared.opening.Opening.{Opening}
-use Rattle.like_core.specs.declared.view.WorkerSeatView.{WorkerSeatView}
-use Rattle.like_core.specs.declared.view.CoordSeatView.{CoordSeatView}
-use Rattle.like_core.specs.declared.view.View.{View}
-use Rattle.like_core.specs.declared.view.View.TheVariants.{Coord, Worker}
-use Rattle.like_core.specs.Phase.{IsSplit}
 use Rattle.like_limits.specs.Limits.{total_bound}
-use Rattle.like_core.specs.word.Forms.{form_of}
-use Rattle.like_core.specs.views.Sights.{sight_in, coord_sight_in}
+use Rattle.like_core.specs.Post.{added, looked_at, number_of, returned, slots_read, with_mask, with_slot}
+use Rattle.like_core.specs.Types.{Coord, CoordLook, CoordSeatView, CoordSight, Look, Opening, Saw, Seen, Sight, View}
+use Rattle.like_core.specs.Types.{Worker, WorkerSeatView, WorkerState}
 use Rattle.like_core.specs.WorkerState.{IsSightOf, SeesEndingStill, phase_of, seen, turn_of}
-use Rattle.like_core.specs.Additions.{added_to}
-use Rattle.like_core.specs.Slots.{IsChoice}
-use Rattle.like_core.specs.views.Views.{looked_coord, counted_coord, slotted_coord}
-use Rattle.like_core.specs.views.Layout.{slot_place}
-use Rattle.like_core.specs.core.Moves.{makes}
-use Rattle.like_core.specs.views.Shows.{IsEntry, IsKnown, IsStep}
-use Rattle.like_core.specs.views.Actions.{Adds, ComesBack, ReadsMask, Counts}
-use Rattle.like_core.specs.PageSteps.{additions_among}
-use Rattle.like_core.specs.Post.{number_of, looked_at, returned, added, with_mask, with_slot, slots_read}
-use Rattle.like_board.specs.Known.{worker_view_of, coord_view_of}
+use Rattle.like_core.specs.declared.shown.Shown.TheVariants.{Coord as CoordShown}
+use Rattle.like_core.specs.views.Actions.{Adds, ComesBack, Counts, ReadsMask}
+use Rattle.like_core.specs.views.Views.{counted_coord, looked_coord, slotted_coord}
+use Rattle.like_core.specs.views.{Shows.IsEntry, Shows.IsKnown, Shows.IsStep, Sights.coord_sight_in, Sights.sight_in}
+use Rattle.like_core.specs.{Additions.added_to, core.Moves.makes, views.Layout.slot_place, word.Forms.form_of}
+use Rattle.like_core.specs.{PageSteps.additions_among, Phase.IsSplit, Slots.IsChoice}
+use Rattle.like_board.specs.Known.{coord_view_of, worker_view_of}
 
 -- what a worker in this state sees in a phase word of this opening
 abbrev pub sight_at : Opening → ℕ → WorkerState → Sight

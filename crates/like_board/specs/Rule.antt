@@ -1,14 +1,8 @@
 -- The rule of a board, and the word and the views with which it begins.
 use Rattle.std.specs.Prelude.{ℕ}
 use Rattle.atomic_table.specs.Table.{State}
-use Rattle.like_core.specs.declared.opening.Opening.{Opening}
-use Rattle.like_core.specs.declared.view.CoordSeatView.{CoordSeatView}
-use Rattle.like_core.specs.declared.view.View.{View}
-use Rattle.like_core.specs.declared.view.View.TheVariants.{Coord}
-use Rattle.like_core.specs.core.State.{start}
-use Rattle.like_core.specs.word.ShownWord.{shown_word}
-use Rattle.like_core.specs.views.Views.{fresh_coord}
-use Rattle.like_core.specs.views.Shows.{ShowsSome}
+use Rattle.like_core.specs.Types.{Coord, CoordSeatView, Opening, View}
+use Rattle.like_core.specs.{core.State.start, views.Shows.ShowsSome, views.Views.fresh_coord, word.ShownWord.shown_word}
 use Rattle.like_board.specs.declared.key.Key.{Key}
 
 -- the opening that a key tells

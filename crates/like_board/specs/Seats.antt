@@ -1,15 +1,10 @@
 -- Boards, seats and posts, as contracts see them: which board each is of, and what it knows.
 use Rattle.std.specs.Prelude.{◌≡◌, ℕ, ◌<◌, ◌==◌, List, ◌∷◌, Some, slice_get, count_by}
 use Rattle.atomic_table.specs.Seated.{TableId}
-use Rattle.like_core.specs.declared.opening.Opening.{Opening}
-use Rattle.like_core.specs.declared.view.WorkerSeatView.{WorkerSeatView}
-use Rattle.like_core.specs.declared.view.CoordSeatView.{CoordSeatView}
-use Rattle.like_board.specs.declared.board.Board.{Board}
-use Rattle.like_board.specs.declared.coord_seat.CoordSeat.{CoordSeat}
-use Rattle.like_board.specs.declared.worker_seat.WorkerSeat.{WorkerSeat}
-use Rattle.like_board.specs.declared.post.PostAt.{PostAt}
-use Rattle.like_core.specs.Post.{fresh}
-use Rattle.like_board.specs.Known.{worker_view_of, coord_view_of}
+use Rattle.like_core.specs.{Post.fresh, Types.CoordSeatView, Types.Opening, Types.WorkerSeatView}
+use Rattle.like_board.specs.Known.{coord_view_of, worker_view_of}
+use Rattle.like_board.specs.declared.{board.Board.Board, post.PostAt.PostAt}
+use Rattle.like_board.specs.declared.{coord_seat.CoordSeat.CoordSeat, worker_seat.WorkerSeat.WorkerSeat}
 
 -- what tells a board from others
 abbrev pub BoardId : Type 0

@@ -1,19 +1,14 @@
 -- Calls of what a handle holds, and what likes.h tells of them: an answer, or the status that came in its place.
 use Rattle.std.specs.Prelude.{◌≡◌, ◌≢◌, ℕ, ◌+◌, ◌≤◌, ◌==◌, if◌then◌else◌, drop, length, List, Option, Some, None, Result, Ok, Err}
-use Rattle.like_requests.specs.declared.verdict.Verdict.{Verdict}
+use Rattle.like_requests.specs.Types.{Verdict}
 use Rattle.like_tables.specs.LastLike.{page_or_none}
-use Rattle.like_live.specs.declared.asked.Found.{Found}
-use Rattle.like_live.specs.declared.driver_answer.DriverAnswer.{DriverAnswer}
-use Rattle.like_live.specs.declared.driver_end.End.{End}
-use Rattle.like_live.specs.declared.driver_end.End.TheVariants.{No, IfItServes, Always}
-use Rattle.like_live.specs.declared.like_pair.LikePair.{LikePair}
-use Rattle.like_live.specs.declared.like_pair.RowAnswer.{RowAnswer}
-use Rattle.like_shared.specs.declared.deed.DriverDeed.{DriverDeed}
-use Rattle.like_shared.specs.declared.deed.DriverDeed.TheVariants.{Turn}
+use Rattle.like_live.specs.Types.{DriverAnswer, End, Found, LikePair, RowAnswer}
+use Rattle.like_live.specs.declared.driver_end.End.TheVariants.{Always, IfItServes, No}
 use Rattle.like_shared.specs.Rows.{IsToldOf}
-use Rattle.like_c.specs.declared.rows.FoundRow.{FoundRow}
-use Rattle.like_c.specs.Rows.{found_row}
-use Rattle.like_c.specs.Status.{HasStatus, Status, counted, empty, in_use, like_status, no_found, ok, status, unknown_end, verdict_status, wrong_range}
+use Rattle.like_shared.specs.declared.deed.DriverDeed.{DriverDeed, TheVariants.Turn}
+use Rattle.like_c.specs.Status.{HasStatus, Status, counted, empty, in_use, like_status, no_found, ok, status}
+use Rattle.like_c.specs.Status.{unknown_end, verdict_status, wrong_range}
+use Rattle.like_c.specs.{Rows.found_row, declared.rows.FoundRow.FoundRow}
 
 -- a call of a handle: for an empty one this is so, and it stays empty; to what any other holds the call does this
 pub data At {A : Type 0} (empty : Type 0) (does : A → A → Type 0) (at after : Option A) : Type 0 where

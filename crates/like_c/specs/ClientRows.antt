@@ -1,15 +1,9 @@
 -- Rows of requests that a client makes.
 use Rattle.std.specs.Prelude.{◌≡◌, ℕ, List, [], ◌∷◌, Result, Ok, Err, Option}
 use Rattle.like_shared.specs.Rows.{AreAnswered}
-use Rattle.like_c.specs.declared.boxed_client.BoxedClient.{BoxedClient}
-use Rattle.like_c.specs.declared.rows.AnswerRow.{AnswerRow}
-use Rattle.like_c.specs.declared.rows.RequestRow.{RequestRow}
-use Rattle.like_c.specs.Clients.{Calls}
-use Rattle.like_c.specs.Asks.{At}
-use Rattle.like_c.specs.Held.{with_first}
-use Rattle.like_c.specs.Rows.{call_of, row_of}
-use Rattle.like_c.specs.Status.{empty, status}
-use Rattle.like_c.specs.Told.{deeds_of_requests}
+use Rattle.like_c.specs.{Asks.At, Clients.Calls, Held.with_first, Rows.call_of, Rows.row_of, Status.empty}
+use Rattle.like_c.specs.{Status.status, Told.deeds_of_requests, declared.boxed_client.BoxedClient.BoxedClient}
+use Rattle.like_c.specs.{declared.rows.AnswerRow.AnswerRow, declared.rows.RequestRow.RequestRow}
 
 -- the first request, if there is one, is told this status
 abbrev pub with_refused : ℕ → List RequestRow → List AnswerRow → List AnswerRow

@@ -1,15 +1,11 @@
 -- What a client's calls do.
-use Rattle.std.specs.Arc.{arc_value}
 use Rattle.std.specs.Prelude.{◌≡◌, ℕ, ◌<◌, true, false, IsFalse, slice_set, List, [], ◌∷◌, Result, Ok, Err, ⊤}
-use Rattle.like_shared.specs.declared.client.Client.{Client}
-use Rattle.like_shared.specs.declared.deed.DriverDeed.{DriverDeed}
-use Rattle.like_shared.specs.declared.deed.SeatDeed.{SeatDeed}
-use Rattle.like_shared.specs.declared.hub.Hub.{Hub}
-use Rattle.like_shared.specs.declared.seat_call.Busy.{Busy}
+use Rattle.std.specs.Arc.{arc_value}
 use Rattle.like_shared.specs.Shared.{AreLogged, HasSameLogs, IsDriverLogged, held_by, holds, pages_of, seats_of}
-use Rattle.like_c.specs.declared.boxed_client.BoxedClient.{BoxedClient}
-use Rattle.like_c.specs.Asks.{If}
+use Rattle.like_shared.specs.declared.{client.Client.Client, deed.SeatDeed.SeatDeed}
+use Rattle.like_shared.specs.declared.{deed.DriverDeed.DriverDeed, hub.Hub.Hub, seat_call.Busy.Busy}
 use Rattle.like_c.specs.Status.{busy, status, unknown_seat}
+use Rattle.like_c.specs.{Asks.If, declared.boxed_client.BoxedClient.BoxedClient}
 
 -- a client's hub
 abbrev pub hub_of : BoxedClient → Hub

@@ -1,13 +1,9 @@
 -- The end of a service, whose driver and seats a host hands back together.
-use Rattle.std.specs.Prelude.{◌≡◌, ◌≢◌, ℕ, List, All, length, map, slice_get, take, Option, Some, None, vec_capacity}
-use Rattle.std.specs.Option.{option_map}
-use Rattle.like_core.specs.declared.worker_state.WorkerState.TheVariants.{Gone}
-use Rattle.like_live.specs.LiveView.{LiveView}
-use Rattle.like_live.specs.Service.{AreGone, AreItsSeats, IsClosedService}
-use Rattle.like_c.specs.declared.opened.BoxedSeat.{BoxedSeat}
-use Rattle.like_c.specs.declared.opened.Opened.{Opened}
-use Rattle.like_c.specs.declared.seat_handle.SeatHandle.{SeatHandle}
+use Rattle.std.specs.Prelude.{◌≡◌, ◌≢◌, ℕ, List, All, length, map, slice_get, take, Option, Some, None, vec_capacity, option_map}
+use Rattle.like_core.specs.Types.{Gone}
+use Rattle.like_live.specs.{LiveView.LiveView, Service.AreGone, Service.AreItsSeats, Service.IsClosedService}
 use Rattle.like_c.specs.Status.{counted, empty, not_ended, status, wrong_pages, wrong_seats}
+use Rattle.like_c.specs.declared.{opened.BoxedSeat.BoxedSeat, opened.Opened.Opened, seat_handle.SeatHandle.SeatHandle}
 
 -- what a handle holds
 abbrev pub home_of : SeatHandle → Option BoxedSeat

@@ -1,11 +1,10 @@
 -- What a handle owns: what a `Box` owns, or nothing, behind the null pointer.
-use base.Fml.{Fml, feq}
-use denote.RattleType.{RattleType}
-use denote.RawPtr.{Ptr, null_ptr}
-use Rattle.std.specs.Global.{Global}
 use Rattle.std.specs.Prelude.{Option, Some, None}
+use Rattle.std.specs.Global.{Global}
 use Rattle.std_alloc.specs.Box.Ownership.{box_owns}
 use Rattle.std_heap.specs.contracts.GlobalAllocator.TheImpl.{ghosts}
+use base.Fml.{Fml, feq}
+use denote.{RattleType.RattleType, RawPtr.Ptr, RawPtr.null_ptr}
 
 -- the allocator of the boxes: all values of its type are the same
 abbrev pub the_alloc : Global

@@ -1,22 +1,13 @@
 -- What a call does by a handle of its own: of a seat, or of a driver.
-use Rattle.std.specs.Prelude.{◌≡◌, ℕ, ◌≤◌, length, slice_get, List, [], ◌∷◌, ◌++◌, Bool, true, false, Option, Some, None, Result, Ok, Err}
+use Rattle.std.specs.Prelude.{◌≡◌, ℕ, ◌≤◌, length, slice_get, List, [], ◌∷◌, ◌++◌, Bool, true, false, Option, Some, None, Result, Ok, Err, Box}
 use Rattle.std.specs.Global.{Global}
-use Rattle.std_alloc.specs.declared.boxed.Box.{Box}
-use Rattle.like_live.specs.Batch.{RunCase}
-use Rattle.like_live.specs.LiveView.{IsSameSeat, RanNext}
-use Rattle.like_live.specs.declared.asked.Found.{Found}
-use Rattle.like_shared.specs.declared.deed.DriverDeed.{DriverDeed}
-use Rattle.like_shared.specs.declared.deed.SeatDeed.{SeatDeed}
+use Rattle.like_live.specs.{Batch.RunCase, LiveView.IsSameSeat, LiveView.RanNext, Types.Found}
 use Rattle.like_shared.specs.Deeds.{DriverDoes, SeatDoes, pages_at}
-use Rattle.like_c.specs.declared.opened.BoxedPhase.{BoxedPhase}
-use Rattle.like_c.specs.declared.opened.BoxedSeat.{BoxedSeat}
-use Rattle.like_c.specs.declared.opened.Opened.{Opened}
-use Rattle.like_c.specs.declared.rows.AnswerRow.{AnswerRow}
-use Rattle.like_c.specs.declared.rows.FoundRow.{FoundRow}
-use Rattle.like_c.specs.declared.rows.RequestRow.{RequestRow}
-use Rattle.like_c.specs.Asks.{At}
+use Rattle.like_shared.specs.declared.deed.{DriverDeed.DriverDeed, SeatDeed.SeatDeed}
 use Rattle.like_c.specs.Rows.{call_of, found_row, row_of, status_row}
-use Rattle.like_c.specs.Status.{all_taken, empty, status}
+use Rattle.like_c.specs.declared.{opened.BoxedPhase.BoxedPhase, opened.BoxedSeat.BoxedSeat, opened.Opened.Opened}
+use Rattle.like_c.specs.declared.{rows.AnswerRow.AnswerRow, rows.FoundRow.FoundRow, rows.RequestRow.RequestRow}
+use Rattle.like_c.specs.{Asks.At, Status.all_taken, Status.empty, Status.status}
 
 -- a call of a seat: with its answer it is this deed, and nothing but the seat has changed
 abbrev pub CallsSeat : {A : Type 0} → (A → SeatDeed) → Result A ℕ → BoxedSeat → BoxedSeat → Type 0

@@ -1,20 +1,16 @@
 -- Where the fields of what crosses to C are in memory, as likes.h asserts it.
 use Rattle.std.specs.Prelude.{◌≡◌, ℕ, ◌+◌, List, [], ◌∷◌}
+use denote.{Memory.lone, RattleType.RattleType}
+use mathlib.Core.Option.{none, some}
 use mir.Syntax.{Ty}
-use mathlib.Core.Option.{some, none}
 use prog.Memory.{field_of}
-use denote.Memory.{lone}
-use denote.RattleType.{RattleType}
+use Rattle.like_live.specs.Types.{LikePair}
 use Rattle.like_live.specs.contracts.like_pair.LikePair as Pair
-use Rattle.like_live.specs.declared.like_pair.LikePair.{LikePair}
+use Rattle.like_c.specs.declared.rows.{AnswerRow.AnswerRow, FoundRow.FoundRow, Options.Options, RequestRow.RequestRow}
 use Rattle.like_c.specs.contracts.rows.AnswerRow as Answer
 use Rattle.like_c.specs.contracts.rows.FoundRow as Found
 use Rattle.like_c.specs.contracts.rows.Options as Opening
 use Rattle.like_c.specs.contracts.rows.RequestRow as Request
-use Rattle.like_c.specs.declared.rows.AnswerRow.{AnswerRow}
-use Rattle.like_c.specs.declared.rows.FoundRow.{FoundRow}
-use Rattle.like_c.specs.declared.rows.Options.{Options}
-use Rattle.like_c.specs.declared.rows.RequestRow.{RequestRow}
 
 -- the fields of the type from field k on begin at these places, and it has no others
 abbrev pub HasPlaces : RattleType → ℕ → List ℕ → Type 0

@@ -1,18 +1,10 @@
 -- What a service is opened with from C.
-use Rattle.std.specs.Prelude.{◌≡◌, ◌==◌, ◌⊎◌, if◌then◌else◌, ℕ, List, [], length, map, replicate, reverse, IsSome, Option, Some, None, Result, Ok, Err, vec_capacity, ⊤}
-use Rattle.like_live.specs.declared.open_error.OpenError.{OpenError}
-use Rattle.std.specs.Option.{is_some}
-use Rattle.like_live.specs.declared.opening.Opening.{Opening}
+use Rattle.std.specs.Prelude.{◌≡◌, ◌==◌, ◌⊎◌, if◌then◌else◌, ℕ, List, [], length, map, replicate, reverse, IsSome, Option, Some, None, Result, Ok, Err, vec_capacity, ⊤, Box}
+use Rattle.std.specs.{Global.Global, Option.is_some}
 use Rattle.like_live.specs.Opening.{Asking, IsRefusedFor, asking}
-use Rattle.like_live.specs.Service.{AreOpened}
-use Rattle.like_live.specs.LiveView.{LiveView}
-use Rattle.std.specs.Global.{Global}
-use Rattle.std_alloc.specs.declared.boxed.Box.{Box}
-use Rattle.like_c.specs.declared.opened.BoxedSeat.{BoxedSeat}
-use Rattle.like_c.specs.declared.opened.Opened.{Opened}
-use Rattle.like_c.specs.declared.rows.Options.{Options}
-use Rattle.like_c.specs.Asks.{Fills}
-use Rattle.like_c.specs.Status.{open_status, status, wrong_reserved}
+use Rattle.like_live.specs.{LiveView.LiveView, Service.AreOpened, Types.OpenError, Types.Opening}
+use Rattle.like_c.specs.declared.{opened.BoxedSeat.BoxedSeat, opened.Opened.Opened, rows.Options.Options}
+use Rattle.like_c.specs.{Asks.Fills, Status.open_status, Status.status, Status.wrong_reserved}
 
 -- how many likes make a page hot; 0: no page gets hot
 abbrev pub hot_of : ℕ → Option ℕ

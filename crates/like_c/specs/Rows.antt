@@ -2,19 +2,11 @@
 use Rattle.std.specs.Prelude.{◌≡◌, ℕ, ◌==◌, if◌then◌else◌, Result, Ok, Err}
 use Rattle.like_tables.specs.LastLike.{page_or_none}
 use Rattle.like_seat.specs.declared.seen.Seen.{Seen}
-use Rattle.like_live.specs.declared.answer.GlanceAnswer.{GlanceAnswer}
-use Rattle.like_live.specs.declared.answer.GlanceAnswer.TheVariants as glance
-use Rattle.like_live.specs.declared.answer.LookAnswer.{LookAnswer}
-use Rattle.like_live.specs.declared.answer.LookAnswer.TheVariants as look
-use Rattle.like_live.specs.declared.asked.Found.{Found}
-use Rattle.like_live.specs.declared.call.Answer.{Answer}
-use Rattle.like_live.specs.declared.call.Answer.TheVariants as answer
-use Rattle.like_live.specs.declared.call.Call.{Call}
-use Rattle.like_live.specs.declared.call.Call.TheVariants as call
-use Rattle.like_c.specs.declared.rows.AnswerRow.{AnswerRow}
-use Rattle.like_c.specs.declared.rows.FoundRow.{FoundRow}
-use Rattle.like_c.specs.declared.rows.RequestRow.{RequestRow}
-use Rattle.like_c.specs.Status.{between, glimpsed, gone, like_status, no_room, seen, status, unknown_op, verdict_status, waits}
+use Rattle.like_live.specs.Types.{Answer, Answer as answer, Call, Call as call, Found, GlanceAnswer}
+use Rattle.like_live.specs.Types.{GlanceAnswer as glance, LookAnswer, LookAnswer as look}
+use Rattle.like_c.specs.Status.{between, glimpsed, gone, like_status, no_room, seen, status, unknown_op, verdict_status}
+use Rattle.like_c.specs.Status.{waits}
+use Rattle.like_c.specs.declared.rows.{AnswerRow.AnswerRow, FoundRow.FoundRow, RequestRow.RequestRow}
 
 -- a status alone
 abbrev pub status_row : ℕ → AnswerRow

@@ -1,19 +1,15 @@
 -- A service that threads share, from its opening to its end, and what likes.h tells of it.
-use Rattle.std.specs.Arc.{arc_value}
 use Rattle.std.specs.Prelude.{◌≡◌, ◌≢◌, ◌⊎◌, ℕ, ◌+◌, false, length, replicate, List, [], ◌∷◌, IfSome, IsSome, Option, Some, None, Result, Ok, Err}
-use Rattle.std.specs.Option.{is_some}
+use Rattle.std.specs.{Arc.arc_value, Option.is_some}
 use Rattle.told_lock.specs.Rights.{first_of, log_of, told_of}
-use Rattle.like_live.specs.declared.opening.Opening.{Opening}
-use Rattle.like_live.specs.Opening.{Asking, asking}
-use Rattle.like_live.specs.Service.{AreOpened}
-use Rattle.like_shared.specs.declared.desk.DeskDeed.TheVariants.{Made}
-use Rattle.like_shared.specs.declared.hub.Hub.{Hub}
+use Rattle.like_live.specs.{Opening.Asking, Opening.asking, Service.AreOpened, Types.Opening}
 use Rattle.like_shared.specs.Hubs.{IsClosedBy, IsLastKeeper}
-use Rattle.like_shared.specs.Shared.{IsUnused, driver_log, first_driver, first_seats, held_by, pages_of, seat_logs, seats_of}
-use Rattle.like_c.specs.declared.boxed_client.BoxedClient.{BoxedClient}
-use Rattle.like_c.specs.declared.boxed_shared.BoxedShared.{BoxedShared}
+use Rattle.like_shared.specs.Shared.{IsUnused, driver_log, first_driver, first_seats, held_by, pages_of, seat_logs}
+use Rattle.like_shared.specs.Shared.{seats_of}
+use Rattle.like_shared.specs.declared.{desk.DeskDeed.TheVariants.Made, hub.Hub.Hub}
 use Rattle.like_c.specs.Clients.{hub_of}
 use Rattle.like_c.specs.Status.{busy, counted, empty, no_memory, not_ended, ok, open_client, status, wrong_pages}
+use Rattle.like_c.specs.declared.{boxed_client.BoxedClient.BoxedClient, boxed_shared.BoxedShared.BoxedShared}
 
 -- the hub of a shared service
 abbrev pub shared_hub : BoxedShared → Hub

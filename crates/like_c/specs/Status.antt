@@ -1,15 +1,8 @@
 -- The status of each answer. The numbers are those of likes.h.
 use Rattle.std.specs.Prelude.{◌≡◌, ℕ, Bool, true, false, Option, Some, None, Result, Ok, Err}
-use Rattle.like_requests.specs.declared.verdict.Verdict.{Verdict}
-use Rattle.like_requests.specs.declared.verdict.Verdict.TheVariants.{Accepted, UnknownUser, OtherHome, UnknownPage}
-use Rattle.like_live.specs.declared.answer.LikeAnswer.{LikeAnswer}
-use Rattle.like_live.specs.declared.answer.LikeAnswer.TheVariants as like
-use Rattle.like_live.specs.declared.answer.TurnAnswer.{TurnAnswer}
-use Rattle.like_live.specs.declared.answer.TurnAnswer.TheVariants as turn
-use Rattle.like_live.specs.declared.driver_answer.DriverAnswer.{DriverAnswer}
-use Rattle.like_live.specs.declared.driver_answer.DriverAnswer.TheVariants as drive
-use Rattle.like_live.specs.declared.open_error.OpenError.{OpenError}
-use Rattle.like_live.specs.declared.open_error.OpenError.TheVariants as open_error
+use Rattle.like_requests.specs.Types.{Accepted, OtherHome, UnknownPage, UnknownUser, Verdict}
+use Rattle.like_live.specs.Types.{DriverAnswer, DriverAnswer as drive, LikeAnswer, LikeAnswer as like, OpenError}
+use Rattle.like_live.specs.Types.{OpenError as open_error, TurnAnswer, TurnAnswer as turn}
 
 -- the version of likes.h
 abbrev pub version : ℕ

@@ -1,21 +1,13 @@
 -- The answers in rows, and the deeds of requests with them.
 use Rattle.std.specs.Prelude.{ℕ, ◌==◌, List, [], ◌∷◌, filter, flat_map, map, Result, Ok, Err}
+use Rattle.like_requests.specs.Types.{Accepted, OtherHome, UnknownPage, UnknownUser, Verdict}
 use Rattle.like_tables.specs.LastLike.{page_in}
-use Rattle.like_requests.specs.declared.verdict.Verdict.{Verdict}
-use Rattle.like_requests.specs.declared.verdict.Verdict.TheVariants.{Accepted, UnknownUser, OtherHome, UnknownPage}
 use Rattle.like_seat.specs.declared.seen.Seen.{Seen}
-use Rattle.like_live.specs.declared.answer.GlanceAnswer.TheVariants as glance
-use Rattle.like_live.specs.declared.answer.LikeAnswer.TheVariants as like
-use Rattle.like_live.specs.declared.answer.LookAnswer.TheVariants as look
-use Rattle.like_live.specs.declared.call.Answer.{Answer}
-use Rattle.like_live.specs.declared.call.Answer.TheVariants as answer
-use Rattle.like_live.specs.declared.call.Call.{Call}
-use Rattle.like_live.specs.declared.call.Call.TheVariants as call
-use Rattle.like_shared.specs.declared.deed.SeatDeed.{SeatDeed}
-use Rattle.like_shared.specs.Rows.{deeds_of_call, row_deeds}
-use Rattle.like_c.specs.declared.rows.AnswerRow.{AnswerRow}
-use Rattle.like_c.specs.declared.rows.RequestRow.{RequestRow}
+use Rattle.like_live.specs.Types.{Answer, Answer as answer, Call, Call as call, GlanceAnswer as glance}
+use Rattle.like_live.specs.Types.{LikeAnswer as like, LookAnswer as look}
+use Rattle.like_shared.specs.{Rows.deeds_of_call, Rows.row_deeds, declared.deed.SeatDeed.SeatDeed}
 use Rattle.like_c.specs.Rows.{call_of, row_of}
+use Rattle.like_c.specs.declared.rows.{AnswerRow.AnswerRow, RequestRow.RequestRow}
 
 -- what a row shows
 abbrev pub seen_in : AnswerRow → Seen

@@ -1,8 +1,7 @@
 -- A sample as a word of a ring.
 use Rattle.std.specs.Prelude.{ℕ, ◌+◌, ◌*◌, ◌^◌}
-use Rattle.like_choice.specs.declared.samples.sample.Kind.{Kind}
 use Rattle.like_choice.specs.declared.samples.sample.Kind.TheVariants.{Like, Look}
-use Rattle.like_choice.specs.declared.samples.sample.Sample.{Sample}
+use Rattle.like_choice.specs.declared.samples.sample.{Kind.Kind, Sample.Sample}
 
 -- the bit of the kind
 abbrev pub kind_bit : Kind → ℕ

@@ -1,10 +1,8 @@
 -- The slots of a service, and what a choice makes of them.
-use Rattle.std.specs.Prelude.{◌≡◌, ℕ, ◌-◌, ◌^◌, ◌<◌, ◌≤◌, ◌⊎◌, true, List, ◌++◌, length, replicate, slice_index, ◌||◌, nat_lt, Bool, filter, map}
-use Rattle.std.specs.List.{list_any, range_with_len, Contains}
-use Rattle.like_limits.specs.Limits.{hot_pages}
-use Rattle.like_limits.specs.Buckets.{bucket}
-use Rattle.like_core.specs.Functions.{has_bit}
-use Rattle.like_core.specs.Slots.{IsChoice}
+use Rattle.std.specs.Prelude.{◌≡◌, ℕ, ◌-◌, ◌^◌, ◌<◌, ◌≤◌, ◌⊎◌, true, List, ◌++◌, length, replicate, slice_index, ◌||◌, nat_lt, Bool, filter, map, Contains}
+use Rattle.std.specs.List.{list_any, range_with_len}
+use Rattle.like_limits.specs.{Buckets.bucket, Limits.hot_pages}
+use Rattle.like_core.specs.{Functions.has_bit, Slots.IsChoice}
 
 -- the factor of its buckets; how many pages there are; how many are marked, which are those in the first slots; the
 -- page in each slot; and a bit for each slot in use

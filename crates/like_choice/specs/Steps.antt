@@ -1,10 +1,8 @@
 -- The steps of a choice: which slots stay in use, and how pages are put into free ones.
-use Rattle.std.specs.Prelude.{◌≡◌, ℕ, ◌<◌, ◌≤◌, ◌==◌, ◌&&◌, ◌||◌, ◌⊎◌, nat_lt, Bool, true, List, length, slice_index}
-use Rattle.std.specs.List.{list_any, Contains}
-use Rattle.like_limits.specs.Buckets.{bucket}
-use Rattle.like_limits.specs.Limits.{hot_pages}
-use Rattle.like_core.specs.Functions.{has_bit}
-use Rattle.like_core.specs.Slots.{IsChoice}
+use Rattle.std.specs.Prelude.{◌≡◌, ℕ, ◌<◌, ◌≤◌, ◌==◌, ◌&&◌, ◌||◌, ◌⊎◌, nat_lt, Bool, true, List, length, slice_index, Contains}
+use Rattle.std.specs.List.{list_any}
+use Rattle.like_limits.specs.{Buckets.bucket, Limits.hot_pages}
+use Rattle.like_core.specs.{Functions.has_bit, Slots.IsChoice}
 use Rattle.like_choice.specs.Slots.{IsInUse}
 
 -- whether a slot stays in use: it is a marked page's, or its page is proposed again

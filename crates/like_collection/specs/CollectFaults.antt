@@ -1,10 +1,9 @@
 -- Why entries of run lists give not one answer for each request.
 use Rattle.std.specs.Prelude.{◌≡◌, ◌≢◌, ℕ, List, [], ◌∷◌, ◌++◌, ⊤}
-use Rattle.like_promises.specs.declared.log.Ran.{Ran}
-use Rattle.like_collection.specs.declared.collect_fault.CollectFault.{CollectFault}
-use Rattle.like_collection.specs.declared.collect_fault.CollectFault.TheVariants.{Stranger, Double, Missing, Memory}
+use Rattle.like_promises.specs.{Collected.entries_of, Types.Ran}
 use Rattle.like_collection.specs.Entries.{AreGood, IsLeast, IsRequest}
-use Rattle.like_promises.specs.Collected.{entries_of}
+use Rattle.like_collection.specs.declared.collect_fault.CollectFault.TheVariants.{Double, Memory, Missing, Stranger}
+use Rattle.like_collection.specs.declared.collect_fault.CollectFault.{CollectFault}
 
 -- the first bad entry has this submitter and number: the entries before it are good, and with them the fact makes it bad
 pub record IsFirstBadEntry (sizes : List ℕ) (entries : List Ran) (submitter number : ℕ)

@@ -1,7 +1,6 @@
 -- The requests of the entries of run lists.
 use Rattle.std.specs.Prelude.{◌≡◌, ◌⊎◌, ℕ, ◌<◌, ◌≤◌, All, List, length, slice_index}
-use Rattle.like_promises.specs.declared.log.Ran.{Ran}
-use Rattle.like_promises.specs.Collected.{entries_of}
+use Rattle.like_promises.specs.{Collected.entries_of, Types.Ran}
 
 -- the submitter has a request with this number, from 1 to how many it has
 pub record IsRequest (sizes : List ℕ) (submitter number : ℕ) : Type 0 where

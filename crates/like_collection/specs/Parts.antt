@@ -1,10 +1,7 @@
 -- What each worker's log answers, and how the answers of all logs are put together.
 use Rattle.std.specs.Prelude.{◌≡◌, ℕ, ◌==◌, ◌%◌, if◌then◌else◌, List, [], length, map, slice_index_or, slice_get, Some}
 use Rattle.std.specs.List.{enumerate_from}
-use Rattle.like_promises.specs.declared.answer.Answer.{Answer}
-use Rattle.like_promises.specs.declared.log.WorkerLog.{WorkerLog}
-use Rattle.like_promises.specs.declared.replies.Replies.{Replies}
-use Rattle.like_promises.specs.Collected.{IsCollected, rows_of}
+use Rattle.like_promises.specs.{Collected.IsCollected, Collected.rows_of, Types.Answer, Types.Replies, Types.WorkerLog}
 
 -- how many requests of a submitter, given with its size, a worker serves: all or none
 abbrev pub own : ℕ → ℕ → ℕ × ℕ → ℕ

@@ -1,13 +1,8 @@
 -- How answers are gathered: a place for each request, empty or with its answer.
-use Rattle.std.specs.Prelude.{◌≡◌, ℕ, zero, suc, ◌+◌, ◌<◌, ◌≤◌, All, Bool, if◌then◌else◌, List, [], length, map, slice_index_or, Option, Some, None, ⊤}
-use Rattle.std.specs.List.{zip}
-use Rattle.std.specs.Option.{option_to_list}
-use Rattle.like_promises.specs.declared.log.Ran.{Ran}
-use Rattle.like_promises.specs.declared.answer.Answer.{Answer}
-use Rattle.like_collection.specs.declared.collect_fault.CollectFault.{CollectFault}
-use Rattle.like_collection.specs.declared.collect_fault.CollectFault.TheVariants.{Missing, Memory}
-use Rattle.like_collection.specs.Entries.{IsLeast, IsRequest}
-use Rattle.like_promises.specs.Collected.{answer_of, entries_of}
+use Rattle.std.specs.Prelude.{◌≡◌, ℕ, zero, suc, ◌+◌, ◌<◌, ◌≤◌, All, Bool, if◌then◌else◌, List, [], length, map, slice_index_or, Option, Some, None, ⊤, zip, option_to_list}
+use Rattle.like_promises.specs.{Collected.answer_of, Collected.entries_of, Types.Answer, Types.Ran}
+use Rattle.like_collection.specs.declared.collect_fault.CollectFault.TheVariants.{Memory, Missing}
+use Rattle.like_collection.specs.{Entries.IsLeast, Entries.IsRequest, declared.collect_fault.CollectFault.CollectFault}
 
 -- the answers at places: those that are marked
 abbrev pub answers_there : List Bool → List Answer → List (Option Answer)

@@ -1,21 +1,16 @@
 -- What words ask for.
-use Rattle.std.specs.Prelude.{◌≡◌, ◌≢◌, ◌≤◌, ◌<◌, ◌⊎◌, ◌++◌, ℕ, Bool, if◌then◌else◌, List, [], ◌∷◌, length, map, codes, pos, Option, None, Some, option_map, IsSomeAnd, String, string_bytes, take, MatchOption, ⊤}
-use Rattle.std.specs.declared.alloc.Global.{Global}
-use Rattle.std.specs.Str.{bytes_eq}
+use Rattle.std.specs.Prelude.{◌≡◌, ◌≢◌, ◌≤◌, ◌<◌, ◌⊎◌, ◌++◌, ℕ, Bool, if◌then◌else◌, List, [], ◌∷◌, length, map, codes, pos, Option, None, Some, option_map, IsSomeAnd, String, string_bytes, take, MatchOption, ⊤, bytes_eq}
 use Rattle.std.specs.Str.Parse.{IsNumeral, digits_value, without_leading_plus}
-use Rattle.clap.specs.Kinds.{IsAmong, Kinds}
-use Rattle.clap.specs.Lexer.{without_minus}
+use Rattle.std.specs.declared.alloc.Global.{Global}
 use Rattle.clap.specs.Values.{IsSignedIn, bool_text}
 use Rattle.clap.specs.Words.{Row, Text, all_of, fault_of, first_of, one_of, subcommand_of}
-use Rattle.clap.specs.declared.error.kind.ErrorKind.{ErrorKind}
 use Rattle.clap.specs.declared.error.kind.ErrorKind.TheVariants.{DisplayHelp, DisplayVersion}
-use Rattle.like_command.specs.CommandLine.{likes_app}
+use Rattle.clap.specs.{Kinds.IsAmong, Kinds.Kinds, Lexer.without_minus, declared.error.kind.ErrorKind.ErrorKind}
 use Rattle.like_limits.specs.Limits.{max_hot, max_stash, max_turns, max_users, max_workers}
-use Rattle.like_command.specs.declared.asked.Asked.{Asked}
-use Rattle.like_command.specs.declared.asked.Asked.TheVariants.{Run, Replay, Help}
-use Rattle.like_command.specs.declared.options.Options.{Options}
-use Rattle.like_command.specs.declared.fault.ParseFault.{ParseFault}
-use Rattle.like_command.specs.declared.fault.ParseFault.TheVariants.{Usage, Memory}
+use Rattle.like_command.specs.CommandLine.{likes_app}
+use Rattle.like_command.specs.declared.asked.Asked.TheVariants.{Help, Replay, Run}
+use Rattle.like_command.specs.declared.fault.ParseFault.TheVariants.{Memory, Usage}
+use Rattle.like_command.specs.declared.{asked.Asked.Asked, fault.ParseFault.ParseFault, options.Options.Options}
 
 -- a text writes a number: decimal digits, with a plus before them or not
 abbrev pub Writes : Text → ℕ → Type 0

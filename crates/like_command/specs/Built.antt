@@ -1,9 +1,7 @@
 -- What the command line is built of: arguments, and commands that have them.
 use Rattle.std.specs.Prelude.{◌≡◌, false}
 use Rattle.clap.specs.Words.{App, Rule, Shape, app_of, rule_of, shape_of}
-use Rattle.clap.specs.declared.builder.arg.Arg.{Arg}
-use Rattle.clap.specs.declared.builder.command.Command.{Command}
-use Rattle.clap.specs.declared.builder.command.Command.TheViews.{out-Command}
+use Rattle.clap.specs.declared.builder.{arg.Arg.Arg, command.Command.Command, command.Command.TheViews.out-Command}
 
 -- an argument with this rule, which isn't global
 pub record IsArgument (rule : Rule) (a : Arg) : Type 0 where

@@ -1,10 +1,8 @@
 -- The command line, as what clap reads of it.
 use Rattle.std.specs.Prelude.{ℕ, true, false, List, [], ◌∷◌, ◌++◌, codes, pos, Some}
-use Rattle.clap.specs.Lexer.{usize_max}
-use Rattle.clap.specs.Simple.{new_shape}
 use Rattle.clap.specs.Words.{App, Rule, Shape, Text, new_rule}
 use Rattle.clap.specs.declared.builder.action.ArgAction.TheVariants.{Append, Set, SetTrue}
-use Rattle.clap.specs.declared.builder.value_parser.ValueParser.TheVariants as vp
+use Rattle.clap.specs.{Lexer.usize_max, Simple.new_shape, declared.builder.value_parser.ValueParser.ValueParser as vp}
 use Rattle.like_limits.specs.Limits.{max_hot, max_stash, max_turns, max_users, max_workers}
 
 -- an option for a text

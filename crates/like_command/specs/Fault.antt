@@ -1,7 +1,6 @@
 -- The status and the line of words that ask for nothing.
 use Rattle.std.specs.Prelude.{ℕ, List, codes, string_bytes}
-use Rattle.like_command.specs.declared.fault.ParseFault.{ParseFault}
-use Rattle.like_command.specs.declared.fault.ParseFault.TheVariants.{Usage, Memory}
+use Rattle.like_command.specs.declared.fault.ParseFault.{ParseFault, TheVariants.Memory, TheVariants.Usage}
 
 -- the line of memory that ran out
 abbrev pub memory_line : List ℕ

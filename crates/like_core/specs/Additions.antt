@@ -1,7 +1,6 @@
 -- Additions to pages' counts, and how many likes those of a list have.
-use Rattle.std.specs.Prelude.{ℕ, ◌==◌, ◌&&◌, nat_lt, if◌then◌else◌, List}
-use Rattle.std.specs.List.{sum_by}
-use Rattle.like_core.specs.declared.view.Addition.{Addition}
+use Rattle.std.specs.Prelude.{ℕ, ◌==◌, ◌&&◌, nat_lt, if◌then◌else◌, List, sum_by}
+use Rattle.like_core.specs.Types.{Addition}
 
 -- likes that were added to a page in a phase, when its count was `old`
 abbrev pub addition : ℕ → ℕ → ℕ → ℕ → Addition

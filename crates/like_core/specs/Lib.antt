@@ -1,4 +1,5 @@
 -- The phase word, the core as a state machine, and what a worker's and the coordinator's views tell.
+pub mod Types
 pub mod Additions
 pub mod PageSteps
 pub mod Log

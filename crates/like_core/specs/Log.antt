@@ -1,12 +1,8 @@
 -- The log of a board, the latest entry first. It is the board's clock: an entry's number is how many entries were made
 -- before it, by all workers.
 use Rattle.std.specs.Prelude.{ℕ, ◌≤◌, ◌==◌, if◌then◌else◌, List, [], ◌∷◌, ◌++◌, length, replicate}
-use Rattle.like_core.specs.declared.log.LogEntry.{LogEntry}
-use Rattle.like_core.specs.declared.log.LogEntry.TheVariants.{Saw, Did}
-use Rattle.like_core.specs.declared.log.Logged.{Logged}
-use Rattle.like_core.specs.declared.page_step.PageStep.{PageStep}
-use Rattle.like_core.specs.PageSteps.{adds_to}
-use Rattle.like_core.specs.core.State.{Label}
+use Rattle.like_core.specs.Types.{Did, LogEntry, Logged, PageStep, Saw}
+use Rattle.like_core.specs.{PageSteps.adds_to, core.State.Label}
 
 -- the worker that made an entry, and the phase in which it did
 abbrev pub entry_worker : LogEntry → ℕ

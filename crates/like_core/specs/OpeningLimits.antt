@@ -1,10 +1,8 @@
 -- The limits that an opening fixes: those of a run, those of a service that goes on, and which are lawful.
 use Rattle.std.specs.Prelude.{ℕ, ◌+◌, ◌-◌, ◌*◌, ◌^◌, ◌<◌, ◌≤◌, ◌≡◌, nat_lt, Bool, true}
-use Rattle.like_core.specs.declared.form.Form.{Form}
-use Rattle.like_core.specs.declared.form.Form.TheVariants.{Bits, Counts}
-use Rattle.like_core.specs.declared.limits.Limits.{Limits}
 use Rattle.like_limits.specs.Limits.{hot_pages, max_count, max_likes, max_pages, max_workers, total_bound}
-use Rattle.like_core.specs.Phase.{last_phase, IsJoined}
+use Rattle.like_core.specs.declared.form.Form.TheVariants.{Bits, Counts}
+use Rattle.like_core.specs.{Phase.IsJoined, Phase.last_phase, Types.Limits, declared.form.Form.Form}
 
 -- the limits of a run: 16,777,214 is its last phase, a worker adds at most 64,000,000 likes, and it has at most 1,024
 -- pages, of which the first 64 may be hot, and 16 workers

@@ -1,13 +1,7 @@
 -- What workers do at the counts of pages, one atomic step after another.
-use Rattle.std.specs.Prelude.{◌≡◌, ℕ, ◌+◌, ◌≤◌, ◌==◌, if◌then◌else◌, List, [], ◌∷◌, ◌++◌, filter, length, map}
-use Rattle.std.specs.List.{sum_by}
-use Rattle.like_core.specs.declared.page_step.PageCall.{PageCall}
-use Rattle.like_core.specs.declared.page_step.PageCall.TheVariants.{Add, Read, Glance}
-use Rattle.like_core.specs.declared.page_step.PageStep.{PageStep}
-use Rattle.like_core.specs.declared.sight.Sight.{Sight}
-use Rattle.like_core.specs.declared.view.Addition.{Addition}
-use Rattle.like_core.specs.declared.view.Look.{Look}
-use Rattle.like_core.specs.Additions.{addition}
+use Rattle.std.specs.Prelude.{◌≡◌, ℕ, ◌+◌, ◌≤◌, ◌==◌, if◌then◌else◌, List, [], ◌∷◌, ◌++◌, filter, length, map, sum_by}
+use Rattle.like_core.specs.Types.{Add, Addition, Glance, PageCall, PageStep, Read, Sight}
+use Rattle.like_core.specs.{Additions.addition, declared.view.Look.Look}
 
 -- a worker's step in a phase at a page, whose count was this
 abbrev pub page_step : ℕ → ℕ → ℕ → ℕ → PageCall → PageStep

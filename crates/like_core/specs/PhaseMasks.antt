@@ -1,8 +1,7 @@
 -- Masks of hot pages by phase, as lists that have the latest first.
 use Rattle.std.specs.Prelude.{◌≡◌, ℕ, ◌==◌, true, List, [], ◌∷◌, ◌++◌, All}
 use Rattle.std.specs.List.{list_any}
-use Rattle.like_core.specs.declared.view.PhaseMask.{PhaseMask}
-use Rattle.like_core.specs.Functions.{update}
+use Rattle.like_core.specs.{Functions.update, declared.view.PhaseMask.PhaseMask}
 
 -- each phase's mask, or 0 if the list has none
 abbrev pub mask_of : List PhaseMask → ℕ → ℕ

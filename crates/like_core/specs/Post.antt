@@ -1,21 +1,13 @@
 -- A post, as contracts see it: what its worker's seat knows, and what each of its calls makes of that.
 use Rattle.std.specs.Prelude.{◌≡◌, ℕ, ◌+◌, ◌<◌, ◌≤◌, Bool, true, false, [], ◌∷◌, ◌++◌, length, take, slice_index, Some, None}
-use Rattle.like_core.specs.declared.worker_state.WorkerState.TheVariants.{Runs, Answered, Gone}
-use Rattle.like_core.specs.declared.sight.Sight.{Sight}
-use Rattle.like_core.specs.declared.opening.Opening.{Opening}
-use Rattle.like_core.specs.declared.log.LogEntry.TheVariants.{Saw, Did}
-use Rattle.like_core.specs.declared.page_step.PageCall.{PageCall}
-use Rattle.like_core.specs.declared.page_step.PageCall.TheVariants.{Add, Read, Glance}
-use Rattle.like_core.specs.declared.view.WorkerSeatView.{WorkerSeatView}
-use Rattle.like_core.specs.Additions.{all_added, added_to, added_in}
-use Rattle.like_core.specs.Log.{latest_number, numbered}
-use Rattle.like_core.specs.PageSteps.{additions_among, look_after, page_step}
-use Rattle.like_core.specs.Phase.{IsSplit, is_marked, split_by}
 use Rattle.like_limits.specs.Limits.{hot_pages}
-use Rattle.like_core.specs.OpeningLimits.{has_slots}
-use Rattle.like_core.specs.Slots.{mask_of_slots}
-use Rattle.like_core.specs.PhaseMasks.{mask_of, HasMask}
+use Rattle.like_core.specs.Additions.{added_in, added_to, all_added}
+use Rattle.like_core.specs.PageSteps.{additions_among, look_after, page_step}
+use Rattle.like_core.specs.Types.{Add, Answered, Did, Glance, Gone, Opening, PageCall, Read, Runs, Saw, Sight}
+use Rattle.like_core.specs.Types.{WorkerSeatView}
 use Rattle.like_core.specs.WorkerState.{IsRunning, RunsSplit, SawEnding, phase_of, running_sight, seen}
+use Rattle.like_core.specs.{Log.latest_number, Log.numbered, OpeningLimits.has_slots, Phase.IsSplit, Phase.is_marked}
+use Rattle.like_core.specs.{Phase.split_by, PhaseMasks.HasMask, PhaseMasks.mask_of, Slots.mask_of_slots}
 
 -- a worker's view before its seat made a step: it runs phase 0, and did nothing yet
 abbrev pub fresh : Opening → ℕ → WorkerSeatView

@@ -1,10 +1,7 @@
 -- The slots of a service: 64 places for the pages that are hot in a split phase.
 use Rattle.std.specs.Prelude.{◌≡◌, ℕ, zero, suc, ◌^◌, ◌<◌, ◌↔◌, true, bit_or, if◌then◌else◌}
-use Rattle.like_core.specs.declared.limits.Limits.{Limits}
-use Rattle.like_limits.specs.Limits.{hot_pages}
-use Rattle.like_limits.specs.Buckets.{bucket}
-use Rattle.like_core.specs.Functions.{has_bit}
-use Rattle.like_core.specs.OpeningLimits.{has_slots}
+use Rattle.like_limits.specs.{Buckets.bucket, Limits.hot_pages}
+use Rattle.like_core.specs.{Functions.has_bit, OpeningLimits.has_slots, Types.Limits}
 
 -- the pages in the slots of a word, as a mask: bit i of the word says that slot i is in use
 unfoldable pub mask_of_slots : (ℕ → ℕ) → ℕ → ℕ → ℕ

@@ -1,9 +1,7 @@
 -- A worker's state: which phase it runs or has answered, and what a look makes of that.
 use Rattle.std.specs.Prelude.{◌≡◌, ℕ, ◌+◌, ◌%◌, ◌≤◌, nat_lt, true, false, if◌then◌else◌, Option, IfSome, IsSomeAnd, MatchBool}
-use Rattle.like_core.specs.declared.worker_state.WorkerState.{WorkerState}
-use Rattle.like_core.specs.declared.worker_state.WorkerState.TheVariants.{Runs, Answered, Gone}
-use Rattle.like_core.specs.declared.sight.Sight.{Sight}
 use Rattle.like_core.specs.Phase.{IsJoined, IsSplit}
+use Rattle.like_core.specs.Types.{Answered, Gone, Runs, Sight, WorkerState}
 
 -- the worker has answered this phase, or is gone
 abbrev pub IsIn : ℕ → WorkerState → Type 0

@@ -1,20 +1,15 @@
 -- The crew of a run: the coordinator at its board, and the servers of the workers.
 use Rattle.std.specs.Prelude.{◌≡◌, ◌<◌, ℕ, Bool, List, Some, length, map, slice_get, All}
 use Rattle.std.specs.List.{AllZip}
-use Rattle.like_requests.specs.declared.request.Request.{Request}
-use Rattle.like_requests.specs.declared.setup.Setup.{Setup}
-use Rattle.like_core.specs.declared.worker_state.WorkerState.TheVariants.{Gone}
-use Rattle.like_board.specs.Rule.{opened_coord}
-use Rattle.like_board.specs.Seats.{BoardId, board_id, board_numbers}
-use Rattle.like_roles.specs.declared.terms.Terms.{Terms}
-use Rattle.like_roles.specs.coordinator.CoordTurns.{CoordinatorGoesOn, CoordinatorView, new_coordinator}
+use Rattle.like_requests.specs.Types.{Request, Setup}
+use Rattle.like_core.specs.Types.{Gone}
+use Rattle.like_board.specs.{Rule.opened_coord, Seats.BoardId, Seats.board_id, Seats.board_numbers}
 use Rattle.like_tables.specs.Share.{rank_of, worker_of}
-use Rattle.like_crew.specs.declared.crew.Crew.{Crew}
-use Rattle.like_crew.specs.declared.site.Site.{Site}
 use Rattle.like_promises.specs.Workload.{workload_of}
-use Rattle.like_crew.specs.Server.{ServerGoesOn, ServerView}
-use Rattle.like_crew.specs.Servers.{AreNewServers, AreServers}
-use Rattle.like_crew.specs.Site.{opening_of}
+use Rattle.like_roles.specs.coordinator.CoordTurns.{CoordinatorGoesOn, CoordinatorView, new_coordinator}
+use Rattle.like_roles.specs.declared.terms.Terms.{Terms}
+use Rattle.like_crew.specs.{Server.ServerGoesOn, Server.ServerView, Site.opening_of}
+use Rattle.like_crew.specs.{Servers.AreNewServers, Servers.AreServers, declared.crew.Crew.Crew, declared.site.Site.Site}
 
 -- the crew as contracts see it: the coordinator, and the servers of the workers in order
 pub record CrewView : Type 0 where

@@ -1,15 +1,13 @@
 -- What a crew leaves when its run has ended.
 use Rattle.std.specs.Prelude.{◌≡◌, All, List}
 use Rattle.std.specs.List.{AllZip}
-use Rattle.like_core.specs.declared.worker_state.WorkerState.TheVariants.{Gone}
-use Rattle.like_board.specs.declared.coord_seat.CoordSeat.{CoordSeat}
-use Rattle.like_board.specs.declared.worker_seat.WorkerSeat.{WorkerSeat}
+use Rattle.like_core.specs.Types.{Gone}
 use Rattle.like_board.specs.Seats.{AreAll, BoardId, board_numbers, coord_board, coord_view, seat_board, seat_view}
+use Rattle.like_board.specs.declared.{coord_seat.CoordSeat.CoordSeat, worker_seat.WorkerSeat.WorkerSeat}
+use Rattle.like_promises.specs.Types.{WorkerLog}
 use Rattle.like_roles.specs.coordinator.CoordTurns.{ChoseByCounts, CoordinatorGoesOn, CoordinatorView, HasEndedJoined}
-use Rattle.like_promises.specs.declared.log.WorkerLog.{WorkerLog}
-use Rattle.like_crew.specs.declared.ended.Ended.{Ended}
-use Rattle.like_crew.specs.Crew.{AreGone, CrewView}
 use Rattle.like_crew.specs.Server.{IsLogOf, ServerGoesOn, ServerView}
+use Rattle.like_crew.specs.{Crew.AreGone, Crew.CrewView, declared.ended.Ended.Ended}
 
 -- the seat that a server leaves: at its board, it knows what the server's post does
 pub record IsSeatOf (s : ServerView) (seat : WorkerSeat) : Type 0 where

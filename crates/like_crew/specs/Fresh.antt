@@ -1,15 +1,10 @@
 -- Fresh looks: each shows what is so at that moment.
 use Rattle.std.specs.Prelude.{◌≡◌, ◌≢◌, ◌↔◌, ℕ, Bool, true, List, ◌∷◌, map, slice_get, Some, All, IsSomeAnd}
-use Rattle.like_core.specs.declared.sight.CoordSight.{CoordSight}
-use Rattle.like_core.specs.declared.view.CoordSeatView.{CoordSeatView}
-use Rattle.like_core.specs.declared.view.View.{View}
-use Rattle.like_core.specs.declared.view.View.TheVariants.{Coord, Worker}
-use Rattle.like_core.specs.declared.worker_state.WorkerState.TheVariants.{Gone}
+use Rattle.like_core.specs.Types.{Coord, CoordSeatView, CoordSight, Gone, View, Worker}
 use Rattle.like_core.specs.WorkerState.{IsIn}
-use Rattle.like_queue.specs.Inbox.{InboxView, item_count}
 use Rattle.like_ending.specs.FreshTurns.{FreshTurns}
-use Rattle.like_crew.specs.Progress.{progress_of}
-use Rattle.like_crew.specs.Server.{ServerView}
+use Rattle.like_queue.specs.Inbox.{InboxView, item_count}
+use Rattle.like_crew.specs.{Progress.progress_of, Server.ServerView}
 
 -- what all seats know: the coordinator's, and then each server's
 abbrev pub views_with : CoordSeatView → List ServerView → List View

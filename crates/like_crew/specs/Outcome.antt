@@ -1,13 +1,9 @@
 -- What a run has left once its board is closed.
 use Rattle.std.specs.Prelude.{◌≡◌, List}
 use Rattle.std.specs.List.{AllZip}
-use Rattle.like_board.specs.Closed.{IsClosedBoard}
-use Rattle.like_board.specs.Seats.{seat_view}
-use Rattle.like_board.specs.declared.worker_seat.WorkerSeat.{WorkerSeat}
+use Rattle.like_board.specs.{Closed.IsClosedBoard, Seats.seat_view, declared.worker_seat.WorkerSeat.WorkerSeat}
 use Rattle.like_roles.specs.coordinator.CoordTurns.{ChoseByCounts, HasEndedJoined}
-use Rattle.like_crew.specs.declared.outcome.Outcome.{Outcome}
-use Rattle.like_crew.specs.Crew.{CrewView}
-use Rattle.like_crew.specs.Server.{IsLogOf, ServerView}
+use Rattle.like_crew.specs.{Crew.CrewView, Server.IsLogOf, Server.ServerView, declared.outcome.Outcome.Outcome}
 
 -- the seat knows what the server's post does, whatever the boards are
 abbrev pub IsSeatLike : ServerView → WorkerSeat → Type 0

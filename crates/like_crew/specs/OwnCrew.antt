@@ -1,12 +1,8 @@
 -- A crew whose thread owns its board.
 use Rattle.std.specs.Prelude.{◌≡◌, ℕ, ◌+◌, List, map, slice_get, Some}
-use Rattle.like_core.specs.declared.view.CoordSeatView.{CoordSeatView}
-use Rattle.like_core.specs.declared.view.View.{View}
-use Rattle.like_board.specs.declared.own_board.worker_seat.OwnWorkerSeat.{OwnWorkerSeat}
-use Rattle.like_board.specs.Own.{own_place, own_view}
-use Rattle.like_crew.specs.Fresh.{views_with}
-use Rattle.like_crew.specs.OwnServer.{OwnServerView}
-use Rattle.like_crew.specs.Server.{ServerView}
+use Rattle.like_core.specs.Types.{CoordSeatView, View}
+use Rattle.like_board.specs.{Own.own_place, Own.own_view, declared.own_board.worker_seat.OwnWorkerSeat.OwnWorkerSeat}
+use Rattle.like_crew.specs.{Fresh.views_with, OwnServer.OwnServerView, Server.ServerView}
 
 abbrev pub servers_of : List OwnServerView → List ServerView
 servers_of owned = map (λ s. s.server) owned

@@ -1,9 +1,8 @@
 -- How far a server is, in the words of the model of `like_ending`.
-use Rattle.std.specs.Prelude.{ℕ, ◌-◌, List, length}
-use Rattle.std.specs.List.{sum_by}
-use Rattle.like_requests.specs.declared.request.Request.{Request}
-use Rattle.like_queue.specs.Inbox.{InboxView, item_count}
+use Rattle.std.specs.Prelude.{ℕ, ◌-◌, List, length, sum_by}
+use Rattle.like_requests.specs.Types.{Request}
 use Rattle.like_ending.specs.Progress.{WorkerProgress}
+use Rattle.like_queue.specs.Inbox.{InboxView, item_count}
 use Rattle.like_crew.specs.Server.{ServerView}
 
 -- how many items of an inbox are left: the requests that were not taken, and the end mark until it was

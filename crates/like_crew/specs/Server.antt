@@ -1,22 +1,12 @@
 -- A worker with the inboxes of its submitters.
 use Rattle.std.specs.Prelude.{◌≡◌, ◌≢◌, ℕ, ◌+◌, ◌<◌, ◌≤◌, min, nat_lt, if◌then◌else◌, false, true, List, [], length, map, slice_get, slice_index, slice_index_or, All, AllPairs, IfSome, Option, Some, None}
-use Rattle.std.specs.List.{range_with_len}
-use Rattle.std.specs.Option.{option_map_or}
-use Rattle.like_requests.specs.Setup.{IsPlan, IsThere}
-use Rattle.like_requests.specs.declared.setup.Setup.{Setup}
-use Rattle.like_requests.specs.declared.request.Request.{Request}
-use Rattle.like_core.specs.declared.sight.Sight.{Sight}
-use Rattle.like_core.specs.declared.worker_state.WorkerState.TheVariants.{Gone}
-use Rattle.like_core.specs.PhaseMasks.{AreMasksOf}
-use Rattle.like_core.specs.Post.{pages_of}
-use Rattle.like_queue.specs.Inbox.{InboxView}
+use Rattle.std.specs.{List.range_with_len, Option.option_map_or}
+use Rattle.like_requests.specs.{Setup.IsPlan, Setup.IsThere, Types.Request, Types.Setup}
+use Rattle.like_core.specs.{PhaseMasks.AreMasksOf, Post.pages_of, Types.Gone, Types.Sight}
 use Rattle.like_tables.specs.Share.{Share, dealt, rank_of, serves}
-use Rattle.like_roles.specs.worker.Follows.{Follows, IsDone}
-use Rattle.like_promises.specs.declared.log.Took.{Took}
-use Rattle.like_promises.specs.declared.log.WorkerLog.{WorkerLog}
-use Rattle.like_promises.specs.Log.{TakesPlans, numbers_taken}
-use Rattle.like_promises.specs.Workload.{Workload}
-use Rattle.like_roles.specs.worker.WorkerView.{WorkerView, phase_at}
+use Rattle.like_promises.specs.{Log.TakesPlans, Log.numbers_taken, Types.Took, Types.WorkerLog, Workload.Workload}
+use Rattle.like_queue.specs.Inbox.{InboxView}
+use Rattle.like_roles.specs.worker.{Follows.Follows, Follows.IsDone, WorkerView.WorkerView, WorkerView.phase_at}
 
 -- the numbers that tell its board from others, the worker, the inboxes of its submitters by rank, and how many items of
 -- each are open to it

@@ -1,15 +1,11 @@
 -- What a turn does to a server, and what it does to open the lists of its submitters.
 use Rattle.std.specs.Prelude.{◌≡◌, ℕ, ◌+◌, ◌<◌, ◌≤◌, min, slice_get, slice_index, slice_set, Some, None}
-use Rattle.like_requests.specs.declared.request.Taken.{Taken}
-use Rattle.like_requests.specs.declared.request.Taken.TheVariants.{Nothing}
-use Rattle.like_queue.specs.Inbox.{HandsOver, InboxView, item_count}
+use Rattle.like_requests.specs.Types.{Nothing, Taken}
 use Rattle.like_tables.specs.Share.{rank_of}
-use Rattle.like_roles.specs.declared.turn.Turn.{Turn}
-use Rattle.like_roles.specs.declared.turn.Turn.TheVariants.{Try}
-use Rattle.like_roles.specs.worker.Turns.{Gives, Turns}
-use Rattle.like_roles.specs.worker.WorkerView.{WorkerView}
-use Rattle.like_crew.specs.Fresh.{AllOpen, IsModelled}
-use Rattle.like_crew.specs.Server.{ServerView}
+use Rattle.like_queue.specs.Inbox.{HandsOver, InboxView, item_count}
+use Rattle.like_roles.specs.declared.turn.Turn.{TheVariants.Try, Turn}
+use Rattle.like_roles.specs.worker.{Turns.Gives, Turns.Turns, WorkerView.WorkerView}
+use Rattle.like_crew.specs.{Fresh.AllOpen, Fresh.IsModelled, Server.ServerView}
 
 -- the place of a submitter's inbox
 abbrev pub rank_at : ServerView → ℕ → ℕ

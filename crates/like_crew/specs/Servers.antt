@@ -1,12 +1,10 @@
 -- The servers of a run.
 use Rattle.std.specs.Prelude.{◌≡◌, ℕ, Bool, List, length, map, replicate}
 use Rattle.std.specs.List.{AllZip, range_with_len}
-use Rattle.like_requests.specs.declared.request.Request.{Request}
-use Rattle.like_requests.specs.declared.setup.Setup.{Setup}
+use Rattle.like_requests.specs.Types.{Request, Setup}
 use Rattle.like_tables.specs.Share.{dealt, share_of}
 use Rattle.like_promises.specs.Workload.{Workload, submitters}
-use Rattle.like_roles.specs.declared.terms.Terms.{Terms}
-use Rattle.like_roles.specs.worker.New.{IsNew, IsPostOf}
+use Rattle.like_roles.specs.{declared.terms.Terms.Terms, worker.New.IsNew, worker.New.IsPostOf}
 use Rattle.like_crew.specs.Server.{ServerView, WorksFor, untouched}
 
 -- the server of a worker of the run, at this board, which notes its additions or does not; it works for the run

@@ -1,10 +1,9 @@
 -- A worker with its inboxes, at a post.
 use Rattle.std.specs.Prelude.{◌≡◌, ℕ, List, map, None}
-use Rattle.like_core.specs.declared.view.WorkerSeatView.{WorkerSeatView}
+use Rattle.like_core.specs.Types.{WorkerSeatView}
 use Rattle.like_queue.specs.Inbox.{Inbox, InboxView, view_of}
 use Rattle.like_roles.specs.worker.Work.{IsReady, worker_at}
-use Rattle.like_crew.specs.declared.crew.serving.Serving.{Serving}
-use Rattle.like_crew.specs.Server.{Agree, ServerView}
+use Rattle.like_crew.specs.{Server.Agree, Server.ServerView, declared.crew.serving.Serving.Serving}
 
 -- the server at a post of a board with these numbers, whose seat knows this; inboxes are seen so, and have so many items
 -- open

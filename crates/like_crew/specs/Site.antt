@@ -1,15 +1,10 @@
 -- What a run uses.
 use Rattle.std.specs.Prelude.{◌≡◌, List, length, map}
-use Rattle.like_requests.specs.Pages.{counts_of, marks_of}
-use Rattle.like_requests.specs.declared.request.Request.{Request}
-use Rattle.like_requests.specs.declared.setup.Setup.{Setup}
-use Rattle.like_core.specs.declared.opening.Opening.{Opening}
-use Rattle.like_core.specs.core.State.{opening}
-use Rattle.like_board.specs.Rule.{opened_coord}
-use Rattle.like_board.specs.Seats.{board_id, coord_board, coord_view}
+use Rattle.like_requests.specs.{Pages.counts_of, Pages.marks_of, Types.Request, Types.Setup}
+use Rattle.like_core.specs.{Types.Opening, core.State.opening}
+use Rattle.like_board.specs.{Rule.opened_coord, Seats.board_id, Seats.coord_board, Seats.coord_view}
 use Rattle.like_roles.specs.worker.New.{AreNewSeats}
-use Rattle.like_crew.specs.declared.site.Seats.{Seats}
-use Rattle.like_crew.specs.declared.site.Site.{Site}
+use Rattle.like_crew.specs.declared.site.{Seats.Seats, Site.Site}
 
 -- the opening of the board of a run
 abbrev pub opening_of : Setup → Opening

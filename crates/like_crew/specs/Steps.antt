@@ -1,18 +1,13 @@
 -- What the steps of a crew do.
 use Rattle.std.specs.Prelude.{◌≡◌, ◌↔◌, ℕ, Bool, true, List, [], ◌∷◌, length, map, slice_get, slice_set, Some}
 use Rattle.std.specs.List.{range_with_len}
-use Rattle.like_requests.specs.declared.script.Turned.{Turned}
-use Rattle.like_requests.specs.declared.script.Turned.TheVariants.{OpenOne, Worker, Coordinator}
+use Rattle.like_requests.specs.Types.{Coordinator, OpenOne, Turned, Worker}
 use Rattle.like_board.specs.Lent.{HasFound}
 use Rattle.like_tables.specs.Share.{worker_of}
-use Rattle.like_roles.specs.coordinator.CoordTurns.{CoordTurns}
-use Rattle.like_roles.specs.declared.coord_turn.CoordTurn.{CoordTurn}
-use Rattle.like_roles.specs.declared.coord_turn.CoordTurn.TheVariants.{Ended}
-use Rattle.like_roles.specs.declared.turn.Turn.{Turn}
-use Rattle.like_crew.specs.Crew.{AreGone, CrewView}
-use Rattle.like_crew.specs.Fresh.{LooksFresh, ShowsWorkers, views_with}
-use Rattle.like_crew.specs.Server.{ServerView}
-use Rattle.like_crew.specs.ServerTurns.{IsTurn, OpensOne, TakesOpen}
+use Rattle.like_roles.specs.declared.{coord_turn.CoordTurn.CoordTurn, turn.Turn.Turn}
+use Rattle.like_roles.specs.{coordinator.CoordTurns.CoordTurns, declared.coord_turn.CoordTurn.TheVariants.Ended}
+use Rattle.like_crew.specs.{Crew.AreGone, Crew.CrewView, Fresh.LooksFresh, Fresh.ShowsWorkers, Fresh.views_with}
+use Rattle.like_crew.specs.{Server.ServerView, ServerTurns.IsTurn, ServerTurns.OpensOne, ServerTurns.TakesOpen}
 
 -- a step of the server of one worker, and of no other
 pub record AtServer (worker : ℕ) (Step : ServerView → ServerView → Type 0) (ss ts : List ServerView)

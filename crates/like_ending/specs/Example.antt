@@ -1,10 +1,8 @@
 -- An example: one worker with one request.
 use Rattle.std.specs.Prelude.{ℕ, Bool, false, [], ◌∷◌}
-use Rattle.like_core.specs.declared.worker_state.WorkerState.{WorkerState}
-use Rattle.like_core.specs.declared.worker_state.WorkerState.TheVariants.{Runs}
-use Rattle.like_ending.specs.Progress.{AllAreGone, CrewProgress}
+use Rattle.like_core.specs.Types.{Runs, WorkerState}
 use Rattle.like_ending.specs.Schedules.{IsFreshRound, Unended}
-use Rattle.like_ending.specs.Laws.{MayLast}
+use Rattle.like_ending.specs.{Laws.MayLast, Progress.AllAreGone, Progress.CrewProgress}
 
 -- a crew of one worker in this state, with so many items to take and no look, whose coordinator counts no turns
 abbrev pub alone : ℕ → Bool → WorkerState → ℕ → CrewProgress

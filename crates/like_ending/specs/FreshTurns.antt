@@ -1,7 +1,7 @@
 -- The turns of a worker, case by case, as far as they count. Its look is fresh: it shows the crew's phase, and whether
 -- that is ending.
 use Rattle.std.specs.Prelude.{◌≡◌, ℕ, ◌+◌, ◌-◌, ◌<◌, Bool, true, false}
-use Rattle.like_core.specs.declared.worker_state.WorkerState.TheVariants.{Answered, Gone}
+use Rattle.like_core.specs.Types.{Answered, Gone}
 use Rattle.like_core.specs.WorkerState.{RunsJoined, RunsSplit, looked, phase_of}
 use Rattle.like_ending.specs.Progress.{WorkerProgress}
 

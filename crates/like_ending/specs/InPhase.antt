@@ -1,9 +1,6 @@
 -- What is so at the start, and after each turn.
-use Rattle.std.specs.Prelude.{◌≡◌, ◌⊎◌, ℕ, ◌+◌, ◌<◌, ◌≤◌, Bool, true}
-use Rattle.std.specs.List.{All}
-use Rattle.like_core.specs.declared.worker_state.WorkerState.{WorkerState}
-use Rattle.like_core.specs.declared.worker_state.WorkerState.TheVariants.{Runs, Answered, Gone}
-use Rattle.like_core.specs.Phase.{last_phase}
+use Rattle.std.specs.Prelude.{◌≡◌, ◌⊎◌, ℕ, ◌+◌, ◌<◌, ◌≤◌, Bool, true, All}
+use Rattle.like_core.specs.{Phase.last_phase, Types.Answered, Types.Gone, Types.Runs, Types.WorkerState}
 use Rattle.like_ending.specs.Progress.{CrewProgress}
 
 -- a worker's state suits the phase: who runs a phase runs the present one; who has answered one has answered the

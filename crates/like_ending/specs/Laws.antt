@@ -2,9 +2,9 @@
 use Rattle.std.specs.Prelude.{ℕ, ◌+◌, ◌*◌, ◌≤◌, Bool, false, true, List, length}
 use Rattle.like_core.specs.Phase.{last_phase}
 use Rattle.like_ending.specs.Progress.{AllAreGone, CrewProgress, IsStart, items_in, remaining_in}
-use Rattle.like_ending.specs.InPhase.{IsCrewInPhase}
-use Rattle.like_ending.specs.Schedules.{TakeTurns, IsFairRound, IsFairStretch, IsFreshRound, HasTurn, Participant, TakesPart, Unended}
-use Rattle.like_ending.specs.Measures.{changes_in, distance, measure}
+use Rattle.like_ending.specs.Schedules.{HasTurn, IsFairRound, IsFairStretch, IsFreshRound, Participant, TakeTurns}
+use Rattle.like_ending.specs.Schedules.{TakesPart, Unended}
+use Rattle.like_ending.specs.{InPhase.IsCrewInPhase, Measures.changes_in, Measures.distance, Measures.measure}
 
 -- a start is in phase; and each turn keeps a crew so, whether all lists are open or not, and doesn't raise what is left
 pub record StaysInPhase : Type 0 where

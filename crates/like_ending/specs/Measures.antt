@@ -1,9 +1,6 @@
 -- What each round lowers, and what each fair stretch lowers.
-use Rattle.std.specs.Prelude.{ℕ, ◌+◌, ◌-◌, ◌*◌, ◌%◌, ◌==◌, min, nat_lt, if◌then◌else◌, Bool, true, false, length}
-use Rattle.std.specs.List.{sum_by}
-use Rattle.like_core.specs.declared.worker_state.WorkerState.{WorkerState}
-use Rattle.like_core.specs.declared.worker_state.WorkerState.TheVariants.{Runs, Answered, Gone}
-use Rattle.like_core.specs.Phase.{last_phase}
+use Rattle.std.specs.Prelude.{ℕ, ◌+◌, ◌-◌, ◌*◌, ◌%◌, ◌==◌, min, nat_lt, if◌then◌else◌, Bool, true, false, length, sum_by}
+use Rattle.like_core.specs.{Phase.last_phase, Types.Answered, Types.Gone, Types.Runs, Types.WorkerState}
 use Rattle.like_ending.specs.Progress.{CrewProgress, WorkerProgress, remaining_in}
 
 -- how many turns of a worker change its state in the present phase: it enters the phase, and answers it. None does once

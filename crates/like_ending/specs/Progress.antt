@@ -1,9 +1,6 @@
 -- How far a crew is.
-use Rattle.std.specs.Prelude.{◌≡◌, ℕ, ◌+◌, Bool, false, List}
-use Rattle.std.specs.List.{All, sum_by}
-use Rattle.like_core.specs.declared.worker_state.WorkerState.{WorkerState}
-use Rattle.like_core.specs.declared.worker_state.WorkerState.TheVariants.{Runs, Gone}
-use Rattle.like_core.specs.WorkerState.{IsIn}
+use Rattle.std.specs.Prelude.{◌≡◌, ℕ, ◌+◌, Bool, false, List, All, sum_by}
+use Rattle.like_core.specs.{Types.Gone, Types.Runs, Types.WorkerState, WorkerState.IsIn}
 
 -- how far a worker is: its state, how many items of its submitters (requests and end marks) it has yet to take, and how
 -- many looks it holds

@@ -1,9 +1,8 @@
 -- Turns one after another: rounds, and schedules.
-use Rattle.std.specs.Prelude.{◌≡◌, ℕ, zero, suc, ◌<◌, Bool, true, List, [], ◌∷◌, length, map, slice_get, slice_set, Some, ⊤}
-use Rattle.std.specs.List.{AllZip, Contains}
+use Rattle.std.specs.Prelude.{◌≡◌, ℕ, zero, suc, ◌<◌, Bool, true, List, [], ◌∷◌, length, map, slice_get, slice_set, Some, ⊤, Contains}
+use Rattle.std.specs.List.{AllZip}
 use Rattle.like_ending.specs.Progress.{AllAreGone, CrewProgress, WorkerProgress}
-use Rattle.like_ending.specs.FreshTurns.{FreshTurns}
-use Rattle.like_ending.specs.FreshCoordTurns.{FreshCoordTurns}
+use Rattle.like_ending.specs.{FreshCoordTurns.FreshCoordTurns, FreshTurns.FreshTurns}
 
 -- who has a turn: the coordinator, or the worker with this number
 pub data Participant : Type 0 where

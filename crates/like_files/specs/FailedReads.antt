@@ -2,14 +2,10 @@
 use Rattle.std.specs.Prelude.{◌≡◌, ℕ, List, map, slice_get, Option, IsSomeAnd, Result, IfErr, MatchResult, Vec, ⊤}
 use Rattle.std.specs.declared.alloc.Global.{Global}
 use Rattle.like_records.specs.Reading.{ReadFailed}
-use Rattle.like_requests.specs.Pages.{Page}
-use Rattle.like_requests.specs.declared.pages_file.PagesFault.TheVariants as pages_fault
-use Rattle.like_requests.specs.declared.request.Request.{Request}
-use Rattle.like_requests.specs.declared.requests_file.RequestsFault.TheVariants as requests_fault
-use Rattle.like_requests.specs.declared.script_file.ScriptFault.TheVariants as script_fault
+use Rattle.like_requests.specs.{Pages.Page, Types.PagesFault as pages_fault, Types.Request}
+use Rattle.like_requests.specs.{Types.RequestsFault as requests_fault, Types.ScriptFault as script_fault}
 use Rattle.like_files.specs.Inputs.{GivesPlans, RefusesPlans}
-use Rattle.like_files.specs.declared.fault.DriverFault.{DriverFault}
-use Rattle.like_files.specs.declared.fault.DriverFault.TheVariants.{Pages, Requests, Script}
+use Rattle.like_files.specs.Types.{DriverFault, Pages, Requests, Script}
 
 -- if the fault says that a read of a file failed, one failed of the file that it names
 abbrev pub TellsRead : {R : Type 0} → R → List R → Option R → DriverFault → Type 0

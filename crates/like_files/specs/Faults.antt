@@ -1,13 +1,9 @@
 -- What the faults of the crates below become.
 use Rattle.std.specs.Prelude.{⊤}
-use Rattle.like_replies.specs.declared.write_fault.WriteFault.{WriteFault}
-use Rattle.like_replies.specs.declared.write_fault.WriteFault.TheVariants as write
-use Rattle.like_run.specs.declared.rounds.fault.ReplayFault.{ReplayFault}
-use Rattle.like_run.specs.declared.rounds.fault.ReplayFault.TheVariants as replay
-use Rattle.like_promises.specs.declared.run_fault.RunFault.{RunFault}
-use Rattle.like_promises.specs.declared.run_fault.RunFault.TheVariants as run
-use Rattle.like_files.specs.declared.fault.DriverFault.{DriverFault}
-use Rattle.like_files.specs.declared.fault.DriverFault.TheVariants.{Settings, Start, Unfinished, Write, Memory}
+use Rattle.like_promises.specs.Types.{RunFault, RunFault as run}
+use Rattle.like_replies.specs.declared.write_fault.WriteFault.{WriteFault, WriteFault as write}
+use Rattle.like_run.specs.declared.rounds.fault.ReplayFault.{ReplayFault, ReplayFault as replay}
+use Rattle.like_files.specs.Types.{DriverFault, Memory, Settings, Start, Unfinished, Write}
 
 -- the fault that a replay's fault becomes
 abbrev pub fault_of_replay : ReplayFault → DriverFault

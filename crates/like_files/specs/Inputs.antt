@@ -1,29 +1,15 @@
 -- What the files of a run or a replay give, as far as their bytes are known.
 use Rattle.std.specs.Prelude.{◌≡◌, ℕ, List, [], map, take, slice_get, Option, Some, None, IsSomeAnd, option_map}
-use Rattle.std.specs.Io.KnownBytes.{Appends}
-use Rattle.std.specs.List.{AllZip}
-use Rattle.like_records.specs.Reading.{records_of}
-use Rattle.like_requests.specs.Pages.{Page}
-use Rattle.like_requests.specs.PagesFile.{IsPagesFault, IsPagesFile}
-use Rattle.like_requests.specs.RequestsFile.{IsRequestsFault, IsRequestsFile}
-use Rattle.like_records.specs.Rows.{Record}
-use Rattle.like_requests.specs.declared.request.Request.{Request}
-use Rattle.like_requests.specs.declared.requests_file.RequestsFault.{RequestsFault}
-use Rattle.like_requests.specs.declared.setup.Setup.{Setup}
-use Rattle.like_promises.specs.declared.report.Report.{Report}
-use Rattle.like_replies.specs.Output.{HasBegun}
-use Rattle.like_replies.specs.PlaceRows.{text_of}
-use Rattle.like_replies.specs.declared.extent.Extent.{Extent}
-use Rattle.like_replies.specs.Notices.{notice_of}
-use Rattle.like_replies.specs.declared.notice.Notice.{Notice}
-use Rattle.like_promises.specs.Report.{IsReportOf}
-use Rattle.like_requests.specs.ScriptFile.{IsScriptFault, IsScriptFile}
-use Rattle.like_requests.specs.declared.script_file.ScriptFault.{ScriptFault}
-use Rattle.like_requests.specs.declared.script.Turned.{Turned}
+use Rattle.std.specs.{Io.KnownBytes.Appends, List.AllZip}
+use Rattle.like_records.specs.{Reading.records_of, Rows.Record}
+use Rattle.like_requests.specs.Types.{Request, RequestsFault, ScriptFault, Setup, Turned}
+use Rattle.like_requests.specs.{Pages.Page, PagesFile.IsPagesFault, PagesFile.IsPagesFile, RequestsFile.IsRequestsFault}
+use Rattle.like_requests.specs.{RequestsFile.IsRequestsFile, ScriptFile.IsScriptFault, ScriptFile.IsScriptFile}
+use Rattle.like_promises.specs.{Report.IsReportOf, Types.Report}
+use Rattle.like_replies.specs.{Notices.notice_of, Output.HasBegun, declared.notice.Notice.Notice}
+use Rattle.like_replies.specs.{PlaceRows.text_of, declared.extent.Extent.Extent}
 use Rattle.like_command.specs.declared.options.Options.{Options}
-use Rattle.like_files.specs.declared.fault.DriverFault.{DriverFault}
-use Rattle.like_files.specs.declared.fault.DriverFault.TheVariants as driver
-use Rattle.like_files.specs.declared.opened.Opened.{Opened}
+use Rattle.like_files.specs.Types.{DriverFault, DriverFault as driver, Opened}
 
 -- the bytes of the pages file and of each request file, where they are known, and those of the script file where there is one
 pub record Inputs : Type 0 where

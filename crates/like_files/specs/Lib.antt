@@ -1,4 +1,5 @@
 -- Runs and replays of files: what the files give, the outcome, and the status and line of each fault.
+pub mod Types
 pub mod FailedReads
 pub mod Faults
 pub mod Inputs

@@ -1,15 +1,11 @@
 -- The statuses and the lines of faults.
 use Rattle.std.specs.Prelude.{ℕ, List, [], ◌++◌, Option, None, Some, MatchOption, codes, slice_get, string_bytes}
-use Rattle.std.specs.Io.KnownBytes.{Appends}
-use Rattle.std.specs.Option.{option_map_or}
-use Rattle.like_requests.specs.declared.pages_file.PagesFault.TheVariants as pages
-use Rattle.like_requests.specs.declared.requests_file.RequestsFault.TheVariants as requests
-use Rattle.like_requests.specs.declared.setup.SettingsFault.TheVariants as settings
-use Rattle.like_requests.specs.declared.script_file.ScriptFault.TheVariants as script
+use Rattle.std.specs.{Io.KnownBytes.Appends, Option.option_map_or}
+use Rattle.like_requests.specs.Types.{PagesFault as pages, RequestsFault as requests, ScriptFault as script}
+use Rattle.like_requests.specs.Types.{SettingsFault as settings}
 use Rattle.like_command.specs.declared.options.Options.{Options}
 use Rattle.like_command.specs.Fault as words
-use Rattle.like_files.specs.declared.fault.DriverFault.{DriverFault}
-use Rattle.like_files.specs.declared.fault.DriverFault.TheVariants.{Pages, Requests, Script, Settings, Start, Unfinished, Write, Memory}
+use Rattle.like_files.specs.Types.{DriverFault, Memory, Pages, Requests, Script, Settings, Start, Unfinished, Write}
 
 -- the line of an output that failed
 abbrev pub write_line : List ℕ

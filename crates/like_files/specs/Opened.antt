@@ -1,17 +1,10 @@
 -- The files that options name, opened by their names, or why they were not.
-use Rattle.std.specs.Prelude.{◌≡◌, ◌+◌, ◌++◌, ◌∷◌, [], ℕ, List, Option, Some, None, IsSomeAnd, is_some, length, map, slice_get, string_bytes}
-use Rattle.std.specs.List.{zip}
-use Rattle.std.specs.Option.{option_to_list}
-use Rattle.like_requests.specs.declared.pages_file.PagesFault.TheVariants as pages_fault
-use Rattle.like_requests.specs.declared.requests_file.RequestsFault.{RequestsFault}
-use Rattle.like_requests.specs.declared.requests_file.RequestsFault.TheVariants as requests_fault
-use Rattle.like_requests.specs.declared.script_file.ScriptFault.TheVariants as script_fault
+use Rattle.std.specs.Prelude.{◌≡◌, ◌+◌, ◌++◌, ◌∷◌, [], ℕ, List, Option, Some, None, IsSomeAnd, is_some, length, map, slice_get, string_bytes, zip, option_to_list}
+use Rattle.like_requests.specs.Types.{PagesFault as pages_fault, RequestsFault, RequestsFault as requests_fault}
+use Rattle.like_requests.specs.Types.{ScriptFault as script_fault}
 use Rattle.like_command.specs.declared.options.Options.{Options}
-use Rattle.like_files.specs.StandardInput.{names_of}
-use Rattle.like_files.specs.Tries.{Tries, Try}
-use Rattle.like_files.specs.declared.fault.DriverFault.{DriverFault}
-use Rattle.like_files.specs.declared.fault.DriverFault.TheVariants.{Pages, Requests, Script}
-use Rattle.like_files.specs.declared.opened.Opened.{Opened}
+use Rattle.like_files.specs.Types.{DriverFault, Opened, Pages, Requests, Script}
+use Rattle.like_files.specs.{StandardInput.names_of, Tries.Tries, Tries.Try}
 
 module _ {R : Type 0} where
   -- the files of these names were opened, in their order

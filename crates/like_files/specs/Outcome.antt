@@ -1,8 +1,6 @@
 -- What a run or a replay of files comes to.
 use Rattle.std.specs.Prelude.{◌≡◌, ◌⊎◌, ℕ, List, Option, Result, IfErr, IfOk, MatchResult, OnOk}
-use Rattle.like_files.specs.Faults.{IsBeforeOutput}
-use Rattle.like_files.specs.declared.fault.DriverFault.{DriverFault}
-use Rattle.like_files.specs.declared.fault.DriverFault.TheVariants.{Write}
+use Rattle.like_files.specs.{Faults.IsBeforeOutput, Types.DriverFault, Types.Write}
 
 -- the answer of a call that writes to an output: either this was done, or there was this fault; and unless it is one of the
 -- output or of memory, the output is as before

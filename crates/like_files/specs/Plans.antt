@@ -1,11 +1,9 @@
 -- What the answers of the request files' readers make, one after the other.
 use Rattle.std.specs.Prelude.{◌≡◌, ◌⊎◌, ℕ, List, map, take, slice_get, IsSomeAnd, Result, Ok, Err, Vec}
 use Rattle.std.specs.declared.alloc.Global.{Global}
-use Rattle.like_requests.specs.declared.request.Request.{Request}
-use Rattle.like_requests.specs.declared.requests_file.RequestsFault.{RequestsFault}
+use Rattle.like_requests.specs.Types.{Request, RequestsFault}
 use Rattle.like_requests.specs.declared.requests_file.RequestsFault.TheVariants.{Memory}
-use Rattle.like_files.specs.declared.fault.DriverFault.{DriverFault}
-use Rattle.like_files.specs.declared.fault.DriverFault.TheVariants.{Requests}
+use Rattle.like_files.specs.Types.{DriverFault, Requests}
 
 -- what the reader of one file answers
 abbrev pub Answer : Type 0

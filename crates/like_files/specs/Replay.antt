@@ -1,15 +1,12 @@
 -- What a replay of files has done, or why it has not.
 use Rattle.std.specs.Prelude.{◌⊎◌, ℕ, List, Option}
-use Rattle.like_requests.specs.declared.request.Request.{Request}
-use Rattle.like_requests.specs.declared.setup.Setup.{Setup}
-use Rattle.like_run.specs.Rounds as replay
-use Rattle.like_run.specs.declared.rounds.fault.ReplayFault.TheVariants as why
-use Rattle.like_requests.specs.declared.script.Turned.{Turned}
-use Rattle.like_files.specs.Inputs.{GivesScript, Inputs, OfFiles, RefusesLists, RefusesScript, WritesReport}
+use Rattle.like_requests.specs.Types.{Request, Setup, Turned}
 use Rattle.like_replies.specs.declared.notice.Notice.{Notice}
+use Rattle.like_run.specs.declared.rounds.fault.ReplayFault.{ReplayFault as why}
+use Rattle.like_run.specs.Rounds as replay
 use Rattle.like_command.specs.declared.options.Options.{Options}
-use Rattle.like_files.specs.declared.fault.DriverFault.{DriverFault}
-use Rattle.like_files.specs.declared.fault.DriverFault.TheVariants.{Script, Settings, Unfinished, Write, Memory}
+use Rattle.like_files.specs.Inputs.{GivesScript, Inputs, OfFiles, RefusesLists, RefusesScript, WritesReport}
+use Rattle.like_files.specs.Types.{DriverFault, Memory, Script, Settings, Unfinished, Write}
 
 -- these values were replayed to the end, and the report was written, with this notice
 pub record HasReplayedLists (options : Options) (setup : Setup) (plans : List (List Request)) (script : List Turned)

@@ -1,15 +1,12 @@
 -- What a run of files has done, or why it has not.
 use Rattle.std.specs.Prelude.{◌⊎◌, ℕ, List, Option}
-use Rattle.like_requests.specs.Setup.{IsWithinLimits}
-use Rattle.like_requests.specs.declared.request.Request.{Request}
-use Rattle.like_requests.specs.declared.setup.Setup.{Setup}
+use Rattle.like_requests.specs.{Setup.IsWithinLimits, Types.Request, Types.Setup}
+use Rattle.like_promises.specs.Types.{RunFault as why}
 use Rattle.like_promises.specs.RunFault as run
-use Rattle.like_promises.specs.declared.run_fault.RunFault.TheVariants as why
-use Rattle.like_files.specs.Inputs.{Inputs, OfFiles, RefusesLists, WritesReport}
 use Rattle.like_replies.specs.declared.notice.Notice.{Notice}
 use Rattle.like_command.specs.declared.options.Options.{Options}
-use Rattle.like_files.specs.declared.fault.DriverFault.{DriverFault}
-use Rattle.like_files.specs.declared.fault.DriverFault.TheVariants.{Settings, Start, Write, Memory}
+use Rattle.like_files.specs.Inputs.{Inputs, OfFiles, RefusesLists, WritesReport}
+use Rattle.like_files.specs.Types.{DriverFault, Memory, Settings, Start, Write}
 
 -- the run of these values was made, and its report was written, with this notice
 pub record HasRunLists (options : Options) (setup : Setup) (plans : List (List Request))

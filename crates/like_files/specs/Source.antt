@@ -1,7 +1,6 @@
 -- What a source gives.
 use Rattle.std.specs.Prelude.{ℕ, List, Option}
-use Rattle.like_files.specs.declared.source.Source.{Source}
-use Rattle.like_files.specs.declared.source.Source.TheVariants.{File, Input}
+use Rattle.like_files.specs.declared.source.Source.{Source, TheVariants.File, TheVariants.Input}
 
 -- what a source has left to give: what its file has, or standard input
 abbrev pub left_in : {F I : Type 0} → (F → Option (List ℕ)) → (I → Option (List ℕ)) → Source F I → Option (List ℕ)

@@ -1,8 +1,6 @@
 -- The name that means standard input, and options that give it to more than one file.
-use Rattle.std.specs.Prelude.{ℕ, Bool, false, if◌then◌else◌, List, [], ◌∷◌, ◌++◌, map, option_map, codes, string_bytes}
+use Rattle.std.specs.Prelude.{ℕ, Bool, false, if◌then◌else◌, List, [], ◌∷◌, ◌++◌, map, option_map, codes, string_bytes, option_to_list, bytes_eq}
 use Rattle.std.specs.List.{list_any}
-use Rattle.std.specs.Option.{option_to_list}
-use Rattle.std.specs.Str.{bytes_eq}
 use Rattle.like_command.specs.declared.options.Options.{Options}
 
 -- a name means standard input

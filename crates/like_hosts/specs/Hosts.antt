@@ -1,7 +1,6 @@
 -- What a host did at a service that it opened, shared and closed.
 use Rattle.std.specs.Prelude.{◌≡◌, ◌≢◌, ℕ, ◌+◌, ◌<◌, List, length, slice_index}
-use Rattle.like_live.specs.declared.opening.Opening.{Opening}
-use Rattle.like_live.specs.Service.{AreOpened}
+use Rattle.like_live.specs.{Service.AreOpened, Types.Opening}
 use Rattle.like_shared.specs.Strict.{DriverEnd, IsStrictlyShared, SeatEnd, firsts}
 
 -- one thread could have done all that its threads did at the service, which was opened so

@@ -1,14 +1,9 @@
 -- The likes that a client was told.
 use Rattle.std.specs.Prelude.{◌≡◌, ◌≢◌, ℕ, ◌+◌, ◌≤◌, List, Result, Ok, sum_by}
 use Rattle.like_core.specs.Functions.{times}
-use Rattle.like_live.specs.declared.answer.LikeAnswer.{LikeAnswer}
-use Rattle.like_live.specs.declared.answer.LikeAnswer.TheVariants.{Liked}
-use Rattle.like_live.specs.History.{pages_liked}
-use Rattle.like_shared.specs.declared.client.Client.{Client}
-use Rattle.like_shared.specs.declared.deed.SeatDeed.{SeatDeed}
-use Rattle.like_shared.specs.declared.seat_call.Busy.{Busy}
-use Rattle.like_shared.specs.Deeds.{calls_of, liked_by}
-use Rattle.like_shared.specs.Shared.{seat_logs}
+use Rattle.like_live.specs.{History.pages_liked, Types.LikeAnswer, Types.Liked}
+use Rattle.like_shared.specs.declared.{client.Client.Client, deed.SeatDeed.SeatDeed}
+use Rattle.like_shared.specs.{Deeds.calls_of, Deeds.liked_by, Shared.seat_logs, declared.seat_call.Busy.Busy}
 
 -- how many likes of a page for a user a deed was told
 abbrev pub liked_for : ℕ → ℕ → SeatDeed → ℕ

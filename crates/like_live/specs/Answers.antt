@@ -1,21 +1,12 @@
 -- The counts that a seat's calls were told, and what the seat read.
 use Rattle.std.specs.Prelude.{◌≡◌, ◌⊎◌, ℕ, ◌+◌, ◌≤◌, if◌then◌else◌, true, List, ◌∷◌, ◌++◌, slice_index, Contains, Some}
-use Rattle.like_core.specs.declared.page_step.PageCall.{PageCall}
-use Rattle.like_core.specs.declared.page_step.PageCall.TheVariants.{Glance, Read}
-use Rattle.like_core.specs.declared.page_step.PageStep.{PageStep}
-use Rattle.like_core.specs.declared.worker_state.WorkerState.TheVariants.{Runs}
-use Rattle.like_core.specs.Additions.{added_in}
-use Rattle.like_core.specs.Post.{additions_in, is_split_at}
 use Rattle.like_core.specs.PageSteps.{additions_among, page_step}
-use Rattle.like_core.specs.views.Posts.{posts_before}
+use Rattle.like_core.specs.Types.{Glance, PageCall, PageStep, Read, Runs}
+use Rattle.like_core.specs.{Additions.added_in, Post.additions_in, Post.is_split_at, views.Posts.posts_before}
 use Rattle.like_seat.specs.StationView.{phase_at}
-use Rattle.like_live.specs.declared.answer.GlanceAnswer.TheVariants as glanced
-use Rattle.like_live.specs.declared.answer.LookAnswer.TheVariants as looked
-use Rattle.like_live.specs.declared.asked.Found.{Found}
-use Rattle.like_live.specs.Driver.{DriverView}
-use Rattle.like_live.specs.LiveView.{LiveView}
 use Rattle.like_live.specs.History.{Does, HasDone, IsUnused, Told, glance, look, take_found}
-use Rattle.like_live.specs.Service.{AreGone, IsClosedService, posts_at}
+use Rattle.like_live.specs.{Driver.DriverView, LiveView.LiveView, Service.AreGone, Service.IsClosedService}
+use Rattle.like_live.specs.{Service.posts_at, Types.Found, Types.GlanceAnswer as glanced, Types.LookAnswer as looked}
 
 -- a count that a call was told: the phase in which the call ran; the page; how many likes of the page the seat is known
 -- to have counted in that phase before; and the count

@@ -1,15 +1,9 @@
 -- A batch of rows, each of which asks for a call and has a place for its answer.
 use Rattle.std.specs.Prelude.{◌≡◌, ◌≢◌, ◌⊎◌, ◌↔◌, ℕ, Bool, false, true, IsTrue, List, [], ◌∷◌, length, min, slice_get, take, Result, Ok, Err, Some, ⊤}
 use Rattle.like_tables.specs.LastLike.{no_page}
-use Rattle.like_live.specs.declared.answer.GlanceAnswer.TheVariants as glanced
-use Rattle.like_live.specs.declared.answer.LikeAnswer.TheVariants as liked
-use Rattle.like_live.specs.declared.answer.LookAnswer.TheVariants as looked
-use Rattle.like_live.specs.declared.call.Answer.{Answer}
-use Rattle.like_live.specs.declared.call.Answer.TheVariants as answer
-use Rattle.like_live.specs.declared.call.Call.{Call}
-use Rattle.like_live.specs.declared.call.Call.TheVariants as call
-use Rattle.like_live.specs.LiveView.{LiveView}
-use Rattle.like_live.specs.History.{Does, glance, like, look}
+use Rattle.like_live.specs.Types.{Answer, Answer as answer, Call, Call as call, GlanceAnswer as glanced}
+use Rattle.like_live.specs.Types.{LikeAnswer as liked, LookAnswer as looked}
+use Rattle.like_live.specs.{History.Does, History.glance, History.like, History.look, LiveView.LiveView}
 
 -- a call is made, as one of a history, and this is its answer
 abbrev pub Makes : LiveView → Call → Answer → LiveView → Type 0

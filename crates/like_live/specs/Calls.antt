@@ -1,29 +1,15 @@
 -- The calls of a live seat, case by case.
 use Rattle.std.specs.Prelude.{◌≡◌, ◌≢◌, ℕ, ◌+◌, ◌<◌, ◌==◌, nat_lt, if◌then◌else◌, Bool, true, false, drop, length, slice_get, Option}
-use Rattle.like_core.specs.Post.{is_split_at, pages_of, retired}
+use Rattle.like_requests.specs.{Types.Accepted, Types.Verdict, Verdict.verdict_of}
 use Rattle.like_core.specs.WorkerState.{RunsJoined, RunsSplit}
-use Rattle.like_core.specs.declared.worker_state.WorkerState.TheVariants as state
-use Rattle.like_requests.specs.declared.verdict.Verdict.{Verdict}
-use Rattle.like_requests.specs.declared.verdict.Verdict.TheVariants.{Accepted}
-use Rattle.like_requests.specs.Verdict.{verdict_of}
-use Rattle.like_seat.specs.declared.seen.Seen.{Seen}
-use Rattle.like_seat.specs.StationView.{StationView, likes_of, phase_at}
-use Rattle.like_seat.specs.Steps.{ComesBack, CountsLike, Glances, Reads, stashing}
-use Rattle.like_tables.specs.Ranked.{IsRanked}
-use Rattle.like_tables.specs.UserTable.{UserTable, with_last}
-use Rattle.like_tables.specs.declared.ranked.Ranked.{Ranked}
-use Rattle.like_live.specs.declared.answer.GlanceAnswer.{GlanceAnswer}
-use Rattle.like_live.specs.declared.answer.GlanceAnswer.TheVariants as glance
-use Rattle.like_live.specs.declared.answer.LikeAnswer.{LikeAnswer}
-use Rattle.like_live.specs.declared.answer.LikeAnswer.TheVariants as like
-use Rattle.like_live.specs.declared.answer.LookAnswer.{LookAnswer}
-use Rattle.like_live.specs.declared.answer.LookAnswer.TheVariants as look
-use Rattle.like_live.specs.declared.answer.TurnAnswer.{TurnAnswer}
-use Rattle.like_live.specs.declared.answer.TurnAnswer.TheVariants as turn
-use Rattle.like_live.specs.declared.asked.Asked.{Asked}
-use Rattle.like_live.specs.declared.asked.Found.{Found}
+use Rattle.like_core.specs.{Post.is_split_at, Post.pages_of, Post.retired, Types.WorkerState as state}
+use Rattle.like_tables.specs.{Ranked.IsRanked, UserTable.UserTable, UserTable.with_last, declared.ranked.Ranked.Ranked}
+use Rattle.like_seat.specs.{StationView.StationView, StationView.likes_of, StationView.phase_at, Steps.ComesBack}
+use Rattle.like_seat.specs.{Steps.CountsLike, Steps.Glances, Steps.Reads, Steps.stashing, declared.seen.Seen.Seen}
 use Rattle.like_live.specs.LiveView.{LiveView, room_of, tally, waiting, with_station}
 use Rattle.like_live.specs.Moves.{FindsAll, Moves, MovesBy, Works}
+use Rattle.like_live.specs.Types.{Asked, Found, GlanceAnswer, GlanceAnswer as glance, LikeAnswer, LikeAnswer as like}
+use Rattle.like_live.specs.Types.{LookAnswer, LookAnswer as look, TurnAnswer, TurnAnswer as turn}
 
 -- the verdict on a request of a user for a page at this seat
 abbrev pub verdict_at : StationView Asked → ℕ → ℕ → Verdict

@@ -1,8 +1,7 @@
 -- An example: two seats like a page each, and then each looks at the page that the other liked.
 use Rattle.std.specs.Prelude.{◌≡◌, ℕ, ◌+◌, List, [], ◌∷◌, ◌++◌, Some}
-use Rattle.like_live.specs.declared.opening.Opening.{Opening}
 use Rattle.like_live.specs.Deeds.{Deed, counted, deed, showed}
-use Rattle.like_live.specs.StrictService.{IsStrictService}
+use Rattle.like_live.specs.{StrictService.IsStrictService, Types.Opening}
 
 -- two seats, and two pages that nobody has liked
 pub record IsForTwo (o : Opening) : Type 0 where

@@ -1,11 +1,10 @@
 -- What deeds ask of a store, and what it replies.
 use Rattle.std.specs.Prelude.{◌≡◌, ℕ, List, map, slice_get, take, Some}
-use Rattle.like_promises.specs.declared.reply.Reply.TheVariants.{Seen}
-use Rattle.like_promises.specs.Store.{Ask, Store, after_all, like, look, reply}
 use Rattle.like_tables.specs.UserTable.{last_of}
+use Rattle.like_promises.specs.Store.{Ask, Store, after_all, like, look, reply}
+use Rattle.like_promises.specs.Types.{Seen}
 use Rattle.like_live.specs.Deeds.{Act, Deed, counted, deeds_of, glimpsed, showed}
-use Rattle.like_live.specs.History.{HasDone, IsUnused, Told}
-use Rattle.like_live.specs.LiveView.{LiveView}
+use Rattle.like_live.specs.{History.HasDone, History.IsUnused, History.Told, LiveView.LiveView}
 
 -- what a deed asked
 abbrev pub asked : (user page : ℕ) → Act → Ask

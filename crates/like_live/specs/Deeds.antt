@@ -1,21 +1,12 @@
 -- What a live seat did for its users: its deeds.
 use Rattle.std.specs.Prelude.{◌≡◌, ◌⊎◌, ℕ, All, Contains, List, [], ◌∷◌, ◌++◌, drop, flat_map, length, reverse, Some}
-use Rattle.like_core.specs.declared.log.LogEntry.{LogEntry}
-use Rattle.like_core.specs.declared.log.LogEntry.TheVariants.{Did, Saw}
-use Rattle.like_core.specs.declared.log.Logged.{Logged}
-use Rattle.like_core.specs.declared.page_step.PageCall.TheVariants.{Add, Glance, Read}
-use Rattle.like_core.specs.Log.{latest_number}
-use Rattle.like_core.specs.PageSteps.{page_step}
-use Rattle.like_core.specs.Post.{number_of}
-use Rattle.like_core.specs.views.Clock.{GoesOn}
-use Rattle.like_seat.specs.declared.seen.Seen.{Seen}
-use Rattle.like_seat.specs.StationView.{phase_at}
-use Rattle.like_live.specs.declared.answer.GlanceAnswer.TheVariants as glanced
-use Rattle.like_live.specs.declared.answer.LikeAnswer.TheVariants.{Liked}
-use Rattle.like_live.specs.declared.answer.LookAnswer.TheVariants as looked
-use Rattle.like_live.specs.declared.asked.Found.{Found}
+use Rattle.like_core.specs.Types.{Add, Did, Glance, LogEntry, Logged, Read, Saw}
+use Rattle.like_core.specs.{Log.latest_number, PageSteps.page_step, Post.number_of, views.Clock.GoesOn}
+use Rattle.like_seat.specs.{StationView.phase_at, declared.seen.Seen.Seen}
+use Rattle.like_live.specs.History.{Does, HasDone, HasLatest, IsLookOrLike, IsUnused, Told, glance, like, like_on, look}
+use Rattle.like_live.specs.History.{take_found}
 use Rattle.like_live.specs.LiveView.{LiveView}
-use Rattle.like_live.specs.History.{Does, HasDone, HasLatest, IsLookOrLike, IsUnused, Told, glance, like, like_on, look, take_found}
+use Rattle.like_live.specs.Types.{Found, GlanceAnswer as glanced, Liked, LookAnswer as looked}
 
 -- a like was counted; or a last like and a count were shown, by a look or a glance, or only glimpsed, by a glance at a
 -- page that is split then

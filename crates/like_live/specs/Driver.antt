@@ -1,24 +1,16 @@
 -- What a driver does in its calls.
 use Rattle.std.specs.Prelude.{◌≡◌, ◌≢◌, ℕ, zero, suc, ◌+◌, ◌||◌, ◌<◌, ◌≤◌, nat_lt, Bool, true, false, List, [], length, replicate, slice_index, Vec, vec_capacity, Option, Some, None}
 use Rattle.std.specs.declared.alloc.Global.{Global}
-use Rattle.like_board.specs.Rule.{opened_coord}
-use Rattle.like_board.specs.Seats.{BoardId}
-use Rattle.like_board.specs.declared.worker_seat.WorkerSeat.{WorkerSeat}
-use Rattle.like_core.specs.declared.sight.CoordSight.{CoordSight}
-use Rattle.like_core.specs.OpeningLimits.{service_limits}
-use Rattle.like_core.specs.Phase.{IsJoined, IsSplit}
-use Rattle.like_core.specs.views.Places.{count_after}
-use Rattle.like_core.specs.declared.view.View.TheVariants.{Coord}
-use Rattle.like_core.specs.views.Shows.{IsKnown, IsLastMoment}
-use Rattle.like_seat.specs.Lead.{LeadView, Sees, announced, new_lead, published_choice, released, with_counts}
+use Rattle.like_core.specs.{OpeningLimits.service_limits, Phase.IsJoined, Phase.IsSplit, Types.Coord, Types.CoordSight}
+use Rattle.like_core.specs.{views.Places.count_after, views.Shows.IsKnown, views.Shows.IsLastMoment}
+use Rattle.like_board.specs.{Rule.opened_coord, Seats.BoardId, declared.worker_seat.WorkerSeat.WorkerSeat}
 use Rattle.like_choice.specs.Slots.{AreSlots, Chooses}
-use Rattle.like_live.specs.Opening.{board_opening}
+use Rattle.like_seat.specs.Lead.{LeadView, Sees, announced, new_lead, published_choice, released, with_counts}
 use Rattle.like_live.specs.Splits.{AreSplitsOf, KeepsMarked, Proposes, SplitsView, new_splits, would_split}
-use Rattle.like_live.specs.declared.opening.Opening.{Opening}
-use Rattle.like_live.specs.declared.driver_answer.DriverAnswer.{DriverAnswer}
-use Rattle.like_live.specs.declared.driver_answer.DriverAnswer.TheVariants.{Announced, Waiting, Released, Running, Ended}
-use Rattle.like_live.specs.declared.driver_end.End.{End}
-use Rattle.like_live.specs.declared.driver_end.End.TheVariants.{No, IfItServes, Always}
+use Rattle.like_live.specs.declared.driver_answer.DriverAnswer.TheVariants.{Announced, Ended, Released, Running}
+use Rattle.like_live.specs.declared.driver_answer.DriverAnswer.TheVariants.{Waiting}
+use Rattle.like_live.specs.declared.driver_end.End.TheVariants.{Always, IfItServes, No}
+use Rattle.like_live.specs.{Opening.board_opening, Types.DriverAnswer, Types.End, Types.Opening}
 
 -- a driver: its lead; which pages are split, and which are proposed; whether it heard a seat ask for the end of the
 -- phase; and whether its service is over, since it has written last counts

@@ -1,29 +1,14 @@
 -- What a live seat's calls were told, from its first call on.
 use Rattle.std.specs.Prelude.{◌≡◌, ◌⊎◌, ℕ, ◌==◌, if◌then◌else◌, List, [], ◌∷◌, ◌++◌, map, Option, Some, flat_map, sum_by}
 use Rattle.std.specs.List.{last_or}
-use Rattle.like_core.specs.declared.log.LogEntry.{LogEntry}
-use Rattle.like_core.specs.declared.log.LogEntry.TheVariants.{Did, Saw}
-use Rattle.like_core.specs.declared.log.Logged.{Logged}
-use Rattle.like_core.specs.declared.page_step.PageCall.TheVariants.{Add}
-use Rattle.like_core.specs.declared.worker_state.WorkerState.TheVariants.{Gone}
-use Rattle.like_core.specs.PageSteps.{page_step}
-use Rattle.like_core.specs.Post.{IsFresh}
-use Rattle.like_core.specs.WorkerState.{IsRunning, RunsSplit}
-use Rattle.like_core.specs.declared.view.WorkerSeatView.{WorkerSeatView}
+use Rattle.like_core.specs.Types.{Add, Did, Gone, LogEntry, Logged, Saw, WorkerSeatView}
+use Rattle.like_core.specs.{PageSteps.page_step, Post.IsFresh, WorkerState.IsRunning, WorkerState.RunsSplit}
+use Rattle.like_tables.specs.{Share.Share, UserTable.last_of, UserTable.table_with_lasts}
 use Rattle.like_seat.specs.StationView.{phase_at}
-use Rattle.like_tables.specs.Share.{Share}
-use Rattle.like_tables.specs.UserTable.{last_of, table_with_lasts}
-use Rattle.like_live.specs.declared.answer.GlanceAnswer.{GlanceAnswer}
-use Rattle.like_live.specs.declared.answer.LikeAnswer.{LikeAnswer}
-use Rattle.like_live.specs.declared.answer.LikeAnswer.TheVariants.{Liked}
-use Rattle.like_live.specs.declared.answer.LookAnswer.{LookAnswer}
-use Rattle.like_live.specs.declared.answer.LookAnswer.TheVariants.{Waits}
-use Rattle.like_live.specs.declared.answer.TurnAnswer.{TurnAnswer}
-use Rattle.like_live.specs.declared.asked.Asked.{Asked}
-use Rattle.like_live.specs.declared.asked.Found.{Found}
-use Rattle.like_live.specs.LiveView.{LiveView, IsNewLive, tally, waiting}
-use Rattle.like_live.specs.Moves.{Moves}
-use Rattle.like_live.specs.Calls.{ComeBackCase, GlanceCase, LikeCase, LikesNow, LookCase, RetireCase, TakesFound, told_of}
+use Rattle.like_live.specs.Types.{Asked, Found, GlanceAnswer, LikeAnswer, Liked, LookAnswer, TurnAnswer}
+use Rattle.like_live.specs.{Calls.ComeBackCase, Calls.GlanceCase, Calls.LikeCase, Calls.LikesNow, Calls.LookCase}
+use Rattle.like_live.specs.{Calls.RetireCase, Calls.TakesFound, Calls.told_of, LiveView.IsNewLive, LiveView.LiveView}
+use Rattle.like_live.specs.{LiveView.tally, LiveView.waiting, Moves.Moves, declared.answer.LookAnswer.TheVariants.Waits}
 
 -- a look at the phase word by this worker in this phase, or a like that it added in it
 abbrev pub IsLookOrLike : (worker phase : ℕ) → LogEntry → Type 0

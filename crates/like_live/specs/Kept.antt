@@ -1,16 +1,11 @@
 -- How a live seat is kept, between two calls and within one.
 use Rattle.std.specs.Prelude.{◌≡◌, ℕ, ◌+◌, ◌/◌, ◌<◌, ◌≤◌, length, All}
-use Rattle.like_core.specs.OpeningLimits.{service_limits}
 use Rattle.like_core.specs.Phase.{IsJoined, IsSplit}
-use Rattle.like_core.specs.Post.{pages_of}
-use Rattle.like_core.specs.WorkerState.{IsRunning}
+use Rattle.like_core.specs.{OpeningLimits.service_limits, Post.pages_of, WorkerState.IsRunning}
+use Rattle.like_tables.specs.{Home.Home, Home.IsHomeOf, StashView.StashView}
 use Rattle.like_seat.specs.StationView.{IsStation, StationView, phase_at}
-use Rattle.like_tables.specs.Home.{Home, IsHomeOf}
-use Rattle.like_tables.specs.StashView.{StashView}
-use Rattle.like_live.specs.declared.asked.Asked.{Asked}
-use Rattle.like_live.specs.declared.asked.Found.{Found}
 use Rattle.like_live.specs.LiveView.{HasLastsWithin, IsLive, IsOwn, RanNext, live_of}
-use Rattle.like_live.specs.LookRoom.{RoomView}
+use Rattle.like_live.specs.{LookRoom.RoomView, Types.Asked, Types.Found}
 
 -- a live seat's parts agree: a worker's station, a stash of found looks, which users have which rank, the number of
 -- pages, how many more looks may wait, and half of the room

@@ -1,11 +1,7 @@
 -- What a live seat tells of its users' last likes.
 use Rattle.std.specs.Prelude.{◌≡◌, ◌≢◌, ℕ, ◌+◌, ◌*◌, ◌<◌, true, List, length, slice_index, MatchResult, Option, Result}
-use Rattle.like_requests.specs.Verdict.{verdict_of}
-use Rattle.like_requests.specs.declared.verdict.Verdict.{Verdict}
-use Rattle.like_requests.specs.declared.verdict.Verdict.TheVariants.{Accepted}
-use Rattle.like_tables.specs.LastLike.{page_or_none}
-use Rattle.like_tables.specs.Share.{owns}
-use Rattle.like_tables.specs.UserTable.{last_of}
+use Rattle.like_requests.specs.{Types.Accepted, Types.Verdict, Verdict.verdict_of}
+use Rattle.like_tables.specs.{LastLike.page_or_none, Share.owns, UserTable.last_of}
 use Rattle.like_live.specs.LiveView.{LiveView}
 
 -- a user's last like is told: its page, if there is one; or why the user is refused

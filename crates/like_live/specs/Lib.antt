@@ -1,4 +1,5 @@
 -- A live service: the calls of its seats and its driver, what they answer, and all of them as one thread's.
+pub mod Types
 pub mod Answers
 pub mod Batch
 pub mod Calls

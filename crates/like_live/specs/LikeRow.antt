@@ -1,15 +1,8 @@
 -- A row of likes, as one call.
 use Rattle.std.specs.Prelude.{◌≡◌, ◌≢◌, List, [], ◌∷◌, length, map, slice_get, take, Some}
-use Rattle.like_live.specs.declared.answer.LikeAnswer.{LikeAnswer}
-use Rattle.like_live.specs.declared.answer.LikeAnswer.TheVariants as liked
-use Rattle.like_live.specs.declared.answer.TurnAnswer.{TurnAnswer}
-use Rattle.like_live.specs.declared.answer.TurnAnswer.TheVariants as turned
-use Rattle.like_live.specs.declared.like_pair.LikePair.{LikePair}
-use Rattle.like_live.specs.declared.like_pair.RowAnswer.{RowAnswer}
-use Rattle.like_live.specs.LiveView.{LiveView}
-use Rattle.like_live.specs.Moves.{Moves}
-use Rattle.like_live.specs.Calls.{LikesNow}
 use Rattle.like_live.specs.History.{HasDone, Told, like_on, turn}
+use Rattle.like_live.specs.{Calls.LikesNow, LiveView.LiveView, Moves.Moves, Types.LikeAnswer, Types.LikeAnswer as liked}
+use Rattle.like_live.specs.{Types.LikePair, Types.RowAnswer, Types.TurnAnswer, Types.TurnAnswer as turned}
 
 -- likes are counted, one after the other
 abbrev pub CountsAll : LiveView → List LikePair → LiveView → Type 0

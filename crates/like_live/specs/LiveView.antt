@@ -1,15 +1,9 @@
 -- What a live seat is, as contracts see it.
 use Rattle.std.specs.Prelude.{◌≡◌, ℕ, ◌+◌, ◌<◌, ◌≤◌, IsTrue, List, [], length, replicate, All, Some}
-use Rattle.like_core.specs.OpeningLimits.{service_limits}
-use Rattle.like_core.specs.Phase.{IsJoined}
-use Rattle.like_core.specs.Post.{pages_of}
-use Rattle.like_core.specs.declared.view.WorkerSeatView.{WorkerSeatView}
+use Rattle.like_core.specs.{OpeningLimits.service_limits, Phase.IsJoined, Post.pages_of, Types.WorkerSeatView}
+use Rattle.like_tables.specs.{Share.owns, StashView.StashView, UserTable.UserTable, UserTable.last_of}
 use Rattle.like_seat.specs.StationView.{IsStation, StationView, phase_at, tally_of}
-use Rattle.like_tables.specs.Share.{owns}
-use Rattle.like_tables.specs.UserTable.{UserTable, last_of}
-use Rattle.like_tables.specs.StashView.{StashView}
-use Rattle.like_live.specs.declared.asked.Asked.{Asked}
-use Rattle.like_live.specs.declared.asked.Found.{Found}
+use Rattle.like_live.specs.Types.{Asked, Found}
 
 -- a worker's station, with the looks that wait in its stash; and the looks that were found and not taken yet
 pub record LiveView : Type 0 where

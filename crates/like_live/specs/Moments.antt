@@ -1,24 +1,15 @@
 -- The seats of a service at a moment of its board, which is between any two steps: what the board's rule says of them.
 use Rattle.std.specs.Prelude.{◌≡◌, ℕ, ◌+◌, ◌<◌, ◌↔◌, Bool, true, All, List, Contains, length, slice_index, sum_by}
-use mathlib.Core.Option.{some}
 use lib.ListN.{get_elem?}
-use Rattle.like_board.specs.Seats.{BoardId}
-use Rattle.like_core.specs.declared.opening.Opening.{Opening}
-use Rattle.like_core.specs.declared.view.View.TheVariants.{Coord}
-use Rattle.like_core.specs.core.Numbers.{AllGone}
-use Rattle.like_core.specs.core.State.{numbers}
-use Rattle.like_core.specs.Post.{is_split_at}
+use mathlib.Core.Option.{some}
 use Rattle.like_core.specs.WorkerState.{RunsJoined, RunsSplit}
-use Rattle.like_core.specs.views.Places.{count_after}
-use Rattle.like_core.specs.views.Posts.{posts_of}
-use Rattle.like_core.specs.views.Shows.{Moment}
-use Rattle.like_seat.specs.Moments.{IsPostAt}
-use Rattle.like_seat.specs.StationView.{IsStation}
-use Rattle.like_live.specs.declared.opening.Opening.{Opening as Asked}
+use Rattle.like_core.specs.{Post.is_split_at, core.Numbers.AllGone, core.State.numbers, views.Places.count_after}
+use Rattle.like_core.specs.{Types.Coord, Types.Opening, views.Posts.posts_of, views.Shows.Moment}
+use Rattle.like_board.specs.Seats.{BoardId}
+use Rattle.like_seat.specs.{Moments.IsPostAt, StationView.IsStation}
 use Rattle.like_live.specs.Driver.{DriverView, IsSameDriver, IsService, new_driver}
 use Rattle.like_live.specs.LiveView.{LiveView, tally}
-use Rattle.like_live.specs.Service.{posts_at}
-use Rattle.like_live.specs.Splits.{IsSlotted}
+use Rattle.like_live.specs.{Service.posts_at, Splits.IsSlotted, Types.Opening as Asked}
 
 -- a seat at a moment: its post is there
 abbrev pub IsSeatAt : (z : Opening) → Moment z → LiveView → Type 0

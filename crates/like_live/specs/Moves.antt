@@ -1,22 +1,13 @@
 -- The phase work of a live seat: what a look at the phase word makes it do.
 use Rattle.std.specs.Prelude.{◌≡◌, ℕ, ◌≤◌, Bool, true, false, List, [], ◌++◌, map, All}
-use Rattle.like_core.specs.declared.log.Logged.{Logged}
-use Rattle.like_core.specs.declared.page_step.PageCall.TheVariants.{Read}
-use Rattle.like_core.specs.declared.page_step.PageStep.{PageStep}
-use Rattle.like_core.specs.declared.sight.Sight.{Sight}
-use Rattle.like_core.specs.declared.worker_state.WorkerState.TheVariants.{Gone}
-use Rattle.like_core.specs.PageSteps.{page_step, then_steps}
-use Rattle.like_core.specs.Post.{additions_of, answered, number_of}
+use Rattle.like_core.specs.Types.{Gone, Logged, PageStep, Read, Sight}
 use Rattle.like_core.specs.WorkerState.{IsSightOf, RunsJoined, RunsSplit}
-use Rattle.like_seat.specs.Merge.{LogsSteps, MergesAndReports}
-use Rattle.like_seat.specs.StationView.{StationView, phase_at}
-use Rattle.like_seat.specs.Steps.{saw}
+use Rattle.like_core.specs.{PageSteps.page_step, PageSteps.then_steps, Post.additions_of, Post.answered, Post.number_of}
 use Rattle.like_tables.specs.UserTable.{last_of}
-use Rattle.like_live.specs.declared.answer.TurnAnswer.{TurnAnswer}
-use Rattle.like_live.specs.declared.answer.TurnAnswer.TheVariants as turn
-use Rattle.like_live.specs.declared.asked.Asked.{Asked}
-use Rattle.like_live.specs.declared.asked.Found.{Found}
+use Rattle.like_seat.specs.StationView.{StationView, phase_at}
+use Rattle.like_seat.specs.{Merge.LogsSteps, Merge.MergesAndReports, Steps.saw}
 use Rattle.like_live.specs.LiveView.{LiveView, waiting, with_station}
+use Rattle.like_live.specs.Types.{Asked, Found, TurnAnswer, TurnAnswer as turn}
 
 -- the seat after a look at the phase word, which has this number; if it enters a split phase, it has also read that
 -- phase's mask

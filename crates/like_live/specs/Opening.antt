@@ -2,17 +2,13 @@
 use Rattle.std.specs.Prelude.{◌≡◌, ◌⊎◌, ℕ, ◌<◌, ◌≤◌, All, List, [], ◌∷◌, length, Option, ⊤}
 use Rattle.std.specs.List.{AllByRecursion}
 use Rattle.like_limits.specs.Limits.{max_count, max_marks, max_stash}
-use Rattle.like_core.specs.OpeningLimits.{service_limits}
-use Rattle.like_core.specs.core.State.{opening_by}
-use Rattle.like_core.specs.declared.opening.Opening.{Opening as CoreOpening}
 use Rattle.like_records.specs.First.{FailsFirst}
 use Rattle.like_requests.specs.Setup.{IsHotLimit}
-use Rattle.like_tables.specs.Factors.{IsFirstApart}
-use Rattle.like_tables.specs.LastLike.{no_page}
-use Rattle.like_tables.specs.UserTable.{IsForUsers}
-use Rattle.like_live.specs.declared.open_error.OpenError.{OpenError}
-use Rattle.like_live.specs.declared.open_error.OpenError.TheVariants.{Pages, Marks, Counts, Seats, Users, Lasts, Room, Hot, Memory}
-use Rattle.like_live.specs.declared.opening.Opening.{Opening}
+use Rattle.like_core.specs.{OpeningLimits.service_limits, Types.Opening as CoreOpening, core.State.opening_by}
+use Rattle.like_tables.specs.{Factors.IsFirstApart, LastLike.no_page, UserTable.IsForUsers}
+use Rattle.like_live.specs.Types.{OpenError, Opening}
+use Rattle.like_live.specs.declared.open_error.OpenError.TheVariants.{Counts, Hot, Lasts, Marks, Memory, Pages, Room}
+use Rattle.like_live.specs.declared.open_error.OpenError.TheVariants.{Seats, Users}
 
 -- what is asked for
 pub record Asking : Type 0 where

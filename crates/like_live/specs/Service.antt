@@ -1,19 +1,13 @@
 -- What a service is when it is opened, and what is known when it is closed.
-use Rattle.std.specs.Prelude.{◌≡◌, ℕ, ◌+◌, ◌<◌, ◌==◌, All, List, length, map, slice_get, slice_index, Some, count_by}
-use Rattle.std.specs.List.{AllZip, sum_by}
-use Rattle.like_board.specs.Closed.{IsClosed}
+use Rattle.std.specs.Prelude.{◌≡◌, ℕ, ◌+◌, ◌<◌, ◌==◌, All, List, length, map, slice_get, slice_index, Some, count_by, sum_by}
+use Rattle.std.specs.List.{AllZip}
+use Rattle.like_core.specs.{Post.additions_of, Post.fresh, Types.Gone, Types.WorkerSeatView}
 use Rattle.like_board.specs.Seats.{BoardId, board_numbers, seat_board, seat_view}
-use Rattle.like_board.specs.declared.worker_seat.WorkerSeat.{WorkerSeat}
-use Rattle.like_core.specs.Post.{additions_of, fresh}
-use Rattle.like_core.specs.declared.view.WorkerSeatView.{WorkerSeatView}
-use Rattle.like_core.specs.declared.worker_state.WorkerState.TheVariants.{Gone}
-use Rattle.like_tables.specs.Factors.{IsFirstApart}
-use Rattle.like_tables.specs.Share.{share_of}
-use Rattle.like_tables.specs.UserTable.{table_with_lasts}
-use Rattle.like_live.specs.declared.opening.Opening.{Opening}
-use Rattle.like_live.specs.LiveView.{IsNewLive, IsSameSeat, LiveView, tally}
+use Rattle.like_board.specs.{Closed.IsClosed, declared.worker_seat.WorkerSeat.WorkerSeat}
+use Rattle.like_tables.specs.{Factors.IsFirstApart, Share.share_of, UserTable.table_with_lasts}
 use Rattle.like_live.specs.Driver.{DriverView, IsSameDriver, new_driver}
-use Rattle.like_live.specs.Opening.{IsWithinLimits, board_opening}
+use Rattle.like_live.specs.LiveView.{IsNewLive, IsSameSeat, LiveView, tally}
+use Rattle.like_live.specs.{Opening.IsWithinLimits, Opening.board_opening, Types.Opening}
 
 -- a seat of an opened service, by its number: it is new, at this board; its users are those with this number modulo the
 -- number of seats; and they have the opening's last likes

@@ -1,9 +1,7 @@
 -- Which pages are split in a service, and which are proposed for the next split phase.
 use Rattle.std.specs.Prelude.{◌≡◌, ◌≢◌, ◌⊎◌, false, IsSomeAnd, ℕ, ◌-◌, ◌%◌, ◌<◌, ◌≤◌, ◌==◌, if◌then◌else◌, Bool, List, [], length, replicate, slice_index}
 use Rattle.like_limits.specs.Limits.{hot_pages}
-use Rattle.like_core.specs.PhaseMasks.{mask_of}
-use Rattle.like_core.specs.Slots.{IsInSlot, mask_of_slots}
-use Rattle.like_core.specs.declared.view.CoordSeatView.{CoordSeatView}
+use Rattle.like_core.specs.{PhaseMasks.mask_of, Slots.IsInSlot, Slots.mask_of_slots, Types.CoordSeatView}
 use Rattle.like_choice.specs.Slots.{AreSlots, SlotsView, new_slots, would_use}
 
 -- the slots of the present or last split phase; the pages that its choice is told to propose, and whether it may find

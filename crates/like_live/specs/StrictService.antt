@@ -1,20 +1,14 @@
 -- The calls of all seats of a service, as those of one thread.
 use Rattle.std.specs.Prelude.{◌≡◌, ◌⊎◌, ℕ, ◌+◌, ◌<◌, ◌≤◌, ◌==◌, nat_lt, All, List, [], filter, flat_map, length, map, take, slice_get, slice_index, slice_index_or, AllPairs, Some}
-use Rattle.like_board.specs.Seats.{BoardId}
-use Rattle.like_core.specs.declared.view.PageCount.{PageCount}
-use Rattle.like_core.specs.views.Shows.{Moment}
-use Rattle.like_promises.specs.Store.{Store}
 use Rattle.like_requests.specs.Verdict.{home}
+use Rattle.like_core.specs.{Types.PageCount, views.Shows.Moment}
+use Rattle.like_board.specs.Seats.{BoardId}
 use Rattle.like_tables.specs.UserTable.{last_in, last_of}
-use Rattle.like_live.specs.declared.opening.Opening.{Opening}
-use Rattle.like_live.specs.Driver.{DriverView, IsSameDriver}
-use Rattle.like_live.specs.LiveView.{LiveView}
-use Rattle.like_live.specs.Moments.{AreSeatsAt}
-use Rattle.like_live.specs.Opening.{board_opening}
+use Rattle.like_promises.specs.Store.{Store}
 use Rattle.like_live.specs.Service.{AreGone, AreOpened, AreOpenedSeats, IsClosedService}
-use Rattle.like_live.specs.History.{HasDone, Told}
-use Rattle.like_live.specs.DeedStore.{Fits, store_after}
-use Rattle.like_live.specs.Deeds.{Deed, counted, deeds_of}
+use Rattle.like_live.specs.{DeedStore.Fits, DeedStore.store_after, Driver.DriverView, Driver.IsSameDriver}
+use Rattle.like_live.specs.{Deeds.Deed, Deeds.counted, Deeds.deeds_of, Moments.AreSeatsAt, Opening.board_opening}
+use Rattle.like_live.specs.{History.HasDone, History.Told, LiveView.LiveView, Types.Opening}
 
 -- the calls of a seat, from one view of it to another
 pub record SeatHistory : Type 0 where

@@ -1,12 +1,10 @@
 -- The status and the line of a fault of the program.
 use Rattle.std.specs.Prelude.{ℕ, List, Option, Result, Ok, Err, codes}
 use Rattle.std.specs.Io.KnownBytes.{Appends}
-use Rattle.like_command.specs.Fault as words
 use Rattle.like_command.specs.declared.options.Options.{Options}
-use Rattle.like_files.specs.Lines.{ShowsLine, told, write_line}
-use Rattle.like_files.specs.declared.fault.DriverFault.{DriverFault}
-use Rattle.like_program.specs.declared.fault.ProgramFault.{ProgramFault}
-use Rattle.like_program.specs.declared.fault.ProgramFault.TheVariants as program
+use Rattle.like_command.specs.Fault as words
+use Rattle.like_files.specs.{Lines.ShowsLine, Lines.told, Lines.write_line, Types.DriverFault}
+use Rattle.like_program.specs.declared.fault.ProgramFault.{ProgramFault, ProgramFault as program}
 
 -- the status of a fault of the program
 abbrev pub program_status : ProgramFault → ℕ

@@ -2,11 +2,8 @@
 -- where they are known.
 use Rattle.std.specs.Prelude.{◌⊎◌, List, Option}
 use Rattle.like_command.specs.declared.options.Options.{Options}
-use Rattle.like_files.specs.FailedReads.{TellsRead}
 use Rattle.like_files.specs.Opened.{AreNamed, IsUnopened}
-use Rattle.like_files.specs.Tries.{Try}
-use Rattle.like_files.specs.declared.fault.DriverFault.{DriverFault}
-use Rattle.like_files.specs.declared.opened.Opened.{Opened}
+use Rattle.like_files.specs.{FailedReads.TellsRead, Tries.Try, Types.DriverFault, Types.Opened}
 
 module _ {R : Type 0} (before after : Option (List (Try R))) (options : Options) where
   -- this holds of the files that the options name, each opened by its name

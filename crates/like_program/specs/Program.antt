@@ -1,21 +1,15 @@
 -- What the program has done for its words, and the status with which it ends.
 use Rattle.std.specs.Prelude.{◌≡◌, ◌⊎◌, ℕ, false, true, List, [], ◌∷◌, length, Option, None, Some, codes, is_some, string_bytes}
 use Rattle.std.specs.Io.KnownBytes.{Appends}
-use Rattle.like_command.specs.Asked.{Asks, AsksForHelp, IsParseFault, Words}
-use Rattle.like_files.specs.Faults.{IsBeforeOutput}
-use Rattle.like_files.specs.Inputs.{BeginsReportOf, Inputs}
-use Rattle.like_files.specs.Outcome.{TellsWrite}
-use Rattle.like_program.specs.Fault.{program_status}
-use Rattle.like_files.specs.Replay.{HasReplayed, IsReplayFilesFault}
-use Rattle.like_files.specs.Run.{HasRun, IsRunFilesFault}
-use Rattle.like_files.specs.StandardInput.{names_of, names_twice}
-use Rattle.like_command.specs.declared.asked.Asked.{Asked}
-use Rattle.like_command.specs.declared.asked.Asked.TheVariants.{Run, Replay, Help}
-use Rattle.like_command.specs.declared.options.Options.{Options}
-use Rattle.like_files.specs.declared.fault.DriverFault.{DriverFault}
 use Rattle.like_replies.specs.declared.notice.Notice.{Notice}
-use Rattle.like_program.specs.declared.fault.ProgramFault.{ProgramFault}
-use Rattle.like_program.specs.declared.fault.ProgramFault.TheVariants as program
+use Rattle.like_command.specs.Asked.{Asks, AsksForHelp, IsParseFault, Words}
+use Rattle.like_command.specs.declared.asked.Asked.TheVariants.{Help, Replay, Run}
+use Rattle.like_command.specs.declared.{asked.Asked.Asked, options.Options.Options}
+use Rattle.like_files.specs.{Faults.IsBeforeOutput, Inputs.BeginsReportOf, Inputs.Inputs, Outcome.TellsWrite}
+use Rattle.like_files.specs.{Replay.HasReplayed, Replay.IsReplayFilesFault, Run.HasRun, Run.IsRunFilesFault}
+use Rattle.like_files.specs.{StandardInput.names_of, StandardInput.names_twice, Types.DriverFault}
+use Rattle.like_program.specs.Fault.{program_status}
+use Rattle.like_program.specs.declared.fault.ProgramFault.{ProgramFault, ProgramFault as program}
 
 -- the bytes of the example's pages file, and of its request file
 abbrev pub example_pages : List ℕ

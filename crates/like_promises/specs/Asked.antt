@@ -1,16 +1,9 @@
 -- What requests ask of a store.
 use Rattle.std.specs.Prelude.{ℕ, List, filter_map, Option, option_map}
+use Rattle.like_requests.specs.Types.{Accepted, Known, Like, Look, Op, PageRef, Request, Verdict}
 use Rattle.like_requests.specs.Verdict.{is_known, verdict_of}
-use Rattle.like_requests.specs.declared.request.Op.{Op}
-use Rattle.like_requests.specs.declared.request.Op.TheVariants.{Like, Look}
-use Rattle.like_requests.specs.declared.request.PageRef.{PageRef}
-use Rattle.like_requests.specs.declared.request.PageRef.TheVariants.{Known}
-use Rattle.like_requests.specs.declared.request.Request.{Request}
-use Rattle.like_requests.specs.declared.verdict.Verdict.{Verdict}
-use Rattle.like_requests.specs.declared.verdict.Verdict.TheVariants.{Accepted}
-use Rattle.like_promises.specs.declared.log.Ran.{Ran}
-use Rattle.like_promises.specs.Store.{Ask, like, look, refuse}
 use Rattle.like_promises.specs.Workload.{Workload, request_at, submitters}
+use Rattle.like_promises.specs.{Store.Ask, Store.like, Store.look, Store.refuse, Types.Ran}
 
 -- what a request asks: a like or a look of its page, if it is accepted; else it is refused
 abbrev pub asked_by : Verdict → Op → ℕ → PageRef → Ask

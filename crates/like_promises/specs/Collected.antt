@@ -1,12 +1,6 @@
 -- What is collected from the entries of run lists: the answer of each request.
-use Rattle.std.specs.Prelude.{◌≡◌, ℕ, ◌==◌, ◌&&◌, List, [], filter, length, map, slice_index_or}
-use Rattle.std.specs.List.{flat_map}
-use Rattle.std.specs.Option.{option_to_list}
-use Rattle.like_promises.specs.declared.answer.Answer.{Answer}
-use Rattle.like_promises.specs.declared.log.Ran.{Ran}
-use Rattle.like_promises.specs.declared.log.WorkerLog.{WorkerLog}
-use Rattle.like_promises.specs.declared.replies.Replies.{Replies}
-use Rattle.like_promises.specs.Workload.{nth}
+use Rattle.std.specs.Prelude.{◌≡◌, ℕ, ◌==◌, ◌&&◌, List, [], filter, length, map, slice_index_or, flat_map, option_to_list}
+use Rattle.like_promises.specs.{Types.Answer, Types.Ran, Types.Replies, Types.WorkerLog, Workload.nth}
 
 -- the entries of all logs, in the order of the logs and of their lists
 abbrev pub entries_in : List WorkerLog → List Ran

@@ -1,23 +1,13 @@
 -- What a report says of a whole run.
 use Rattle.std.specs.Prelude.{◌≡◌, ℕ, ◌+◌, ◌≤◌, List, length, map, slice_get, All, Option, Some}
 use Rattle.std.specs.List.{range_with_len}
-use Rattle.like_requests.specs.Verdict.{home}
+use Rattle.like_requests.specs.{Types.Request, Types.Setup, Verdict.home}
 use Rattle.like_core.specs.Phase.{IsJoined}
 use Rattle.like_tables.specs.Share.{worker_of}
-use Rattle.like_promises.specs.declared.log.Ran.{Ran}
-use Rattle.like_promises.specs.declared.log.WorkerLog.{WorkerLog}
-use Rattle.like_promises.specs.Likes.{initial_count, likes}
-use Rattle.like_promises.specs.Replies.{HasRightCounts}
-use Rattle.like_promises.specs.HotPages.{chosen_below}
-use Rattle.like_promises.specs.Workload.{Workload, submitters}
-use Rattle.like_promises.specs.declared.report.Report.{Report}
-use Rattle.like_promises.specs.Collected.{IsCollected, rows_of, entries_in}
-use Rattle.like_promises.specs.Serial.{HasOneOrder, run_of}
-use Rattle.like_requests.specs.declared.request.Request.{Request}
-use Rattle.like_requests.specs.declared.setup.Setup.{Setup}
-use Rattle.like_promises.specs.Report.{workload_by}
-use Rattle.like_promises.specs.RunStore.{store_after}
-use Rattle.like_promises.specs.Log.{IsLog}
+use Rattle.like_promises.specs.{Collected.IsCollected, Collected.entries_in, Collected.rows_of, HotPages.chosen_below}
+use Rattle.like_promises.specs.{Likes.initial_count, Likes.likes, Log.IsLog, Replies.HasRightCounts, Report.workload_by}
+use Rattle.like_promises.specs.{RunStore.store_after, Serial.HasOneOrder, Serial.run_of, Types.Ran, Types.Report}
+use Rattle.like_promises.specs.{Types.WorkerLog, Workload.Workload, Workload.submitters}
 
 -- the run lists of all workers
 abbrev pub runs_of : List WorkerLog → List (List Ran)

@@ -1,8 +1,8 @@
 -- Which pages are hot in a split phase.
-use Rattle.std.specs.Prelude.{ℕ, ◌%◌, ◌^◌, ◌==◌, nat_lt, nat_le, min, if◌then◌else◌, List, length, map, filter, Option, Some, None}
-use Rattle.std.specs.List.{range_with_len, sum_by}
+use Rattle.std.specs.Prelude.{ℕ, ◌%◌, ◌^◌, ◌==◌, nat_lt, nat_le, min, if◌then◌else◌, List, length, map, filter, Option, Some, None, sum_by}
+use Rattle.std.specs.List.{range_with_len}
 use Rattle.like_limits.specs.Limits.{hot_pages}
-use Rattle.like_promises.specs.declared.chosen.Chosen.{Chosen}
+use Rattle.like_promises.specs.Types.{Chosen}
 
 -- at most this many phases have hot pages
 abbrev pub max_chosen : ℕ

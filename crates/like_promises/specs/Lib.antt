@@ -1,4 +1,5 @@
 -- What a run promises: a store, its replies, the order of requests, hot pages, places, and the report.
+pub mod Types
 pub mod Workload
 pub mod Store
 pub mod Asked

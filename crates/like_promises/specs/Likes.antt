@@ -1,14 +1,9 @@
 -- Likes and looks among entries: how many likes of a page, and which count a look shows.
-use Rattle.std.specs.Prelude.{ℕ, ◌-◌, ◌==◌, Bool, false, List, length, filter, count_by, slice_get, Option, Some, None, option_and_then}
-use Rattle.std.specs.List.{sum_by}
+use Rattle.std.specs.Prelude.{ℕ, ◌-◌, ◌==◌, Bool, false, List, length, filter, count_by, slice_get, Option, Some, None, option_and_then, sum_by}
 use Rattle.std.specs.Option.{option_map_or}
 use Rattle.like_requests.specs.Pages.{Page}
-use Rattle.like_promises.specs.declared.log.Ran.{Ran}
-use Rattle.like_promises.specs.declared.reply.Reply.{Reply}
-use Rattle.like_promises.specs.declared.reply.Reply.TheVariants.{Seen}
-use Rattle.like_promises.specs.Asked.{asked, asks}
 use Rattle.like_promises.specs.Store.{Ask, like, look}
-use Rattle.like_promises.specs.Workload.{Workload}
+use Rattle.like_promises.specs.{Asked.asked, Asked.asks, Types.Ran, Types.Reply, Types.Seen, Workload.Workload}
 
 -- whether what is asked is a like of the page
 abbrev pub is_like_of : ℕ → Ask → Bool

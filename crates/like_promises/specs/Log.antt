@@ -1,14 +1,9 @@
 -- What the log of a worker has to say.
 use Rattle.std.specs.Prelude.{◌≡◌, ℕ, ◌≤◌, ◌==◌, if◌then◌else◌, List, [], length, map, filter, slice_index_or, AllPairs}
 use Rattle.std.specs.List.{range_with_len}
-use Rattle.like_tables.specs.Share.{worker_of}
-use Rattle.like_tables.specs.UserTable.{last_of}
-use Rattle.like_promises.specs.declared.log.Took.{Took}
-use Rattle.like_promises.specs.declared.log.WorkerLog.{WorkerLog}
-use Rattle.like_promises.specs.Order.{entry_of, is_due, order}
-use Rattle.like_promises.specs.Replies.{HasRightAnswers}
-use Rattle.like_promises.specs.RunStore.{store_after}
-use Rattle.like_promises.specs.Workload.{Workload}
+use Rattle.like_tables.specs.{Share.worker_of, UserTable.last_of}
+use Rattle.like_promises.specs.{Order.entry_of, Order.is_due, Order.order, RunStore.store_after, Workload.Workload}
+use Rattle.like_promises.specs.{Replies.HasRightAnswers, Types.Took, Types.WorkerLog}
 
 -- the numbers of the requests that were taken from a submitter, in their order
 abbrev pub numbers_taken : ℕ → List Took → List ℕ

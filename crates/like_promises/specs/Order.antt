@@ -1,12 +1,8 @@
 -- In which order a worker runs what it has taken, and what has to wait.
-use Rattle.std.specs.Prelude.{ℕ, ◌+◌, ◌==◌, Bool, true, false, ◌&&◌, not, max, List, [], ◌∷◌, ◌++◌, map, filter}
-use Rattle.std.specs.List.{flat_map, range_with_len}
-use Rattle.std.specs.Option.{option_map_or}
-use Rattle.like_promises.specs.declared.log.Ran.{Ran}
-use Rattle.like_promises.specs.declared.log.Took.{Took}
-use Rattle.like_promises.specs.Asked.{asked}
-use Rattle.like_promises.specs.Store.{Ask, look}
+use Rattle.std.specs.Prelude.{ℕ, ◌+◌, ◌==◌, Bool, true, false, ◌&&◌, not, max, List, [], ◌∷◌, ◌++◌, map, filter, flat_map}
+use Rattle.std.specs.{List.range_with_len, Option.option_map_or}
 use Rattle.like_promises.specs.Workload.{Workload, is_split_in}
+use Rattle.like_promises.specs.{Asked.asked, Store.Ask, Store.look, Types.Ran, Types.Took}
 
 -- whether what is asked has to wait, where these pages are split: a look at one of them
 abbrev pub must_wait : (ℕ → Bool) → Ask → Bool

@@ -1,13 +1,7 @@
 -- Which replies are right.
 use Rattle.std.specs.Prelude.{◌≡◌, ℕ, suc, List, take, drop, slice_get, Some, option_map}
-use Rattle.like_promises.specs.declared.log.Ran.{Ran}
-use Rattle.like_promises.specs.declared.reply.Reply.{Reply}
-use Rattle.like_promises.specs.declared.reply.Reply.TheVariants.{Seen}
-use Rattle.like_promises.specs.Asked.{asked}
-use Rattle.like_promises.specs.Likes.{count_in, likes_within, look_ran}
-use Rattle.like_promises.specs.RunStore.{Between, store_after}
-use Rattle.like_promises.specs.Store.{reply}
-use Rattle.like_promises.specs.Workload.{Workload}
+use Rattle.like_promises.specs.{Asked.asked, RunStore.Between, RunStore.store_after, Store.reply, Workload.Workload}
+use Rattle.like_promises.specs.{Likes.count_in, Likes.likes_within, Likes.look_ran, Types.Ran, Types.Reply, Types.Seen}
 
 -- a reply, its count aside
 abbrev pub uncounted : Reply → Reply

@@ -1,23 +1,14 @@
 -- The report of a run or a replay: that of one thread, which has a store.
 use Rattle.std.specs.Prelude.{◌≡◌, ℕ, ◌-◌, ◌≤◌, ◌==◌, Bool, false, true, List, [], All, AllPairs, filter, length, map, slice_get, slice_index_or, Some}
 use Rattle.std.specs.List.{range_with_len}
+use Rattle.like_requests.specs.Types.{Request, Setup}
 use Rattle.like_core.specs.Phase.{IsJoined}
-use Rattle.like_requests.specs.declared.request.Request.{Request}
-use Rattle.like_requests.specs.declared.setup.Setup.{Setup}
 use Rattle.like_tables.specs.UserTable.{last_of}
-use Rattle.like_promises.specs.declared.log.Ran.{Ran}
-use Rattle.like_promises.specs.declared.log.WorkerLog.{WorkerLog}
-use Rattle.like_promises.specs.declared.report.Report.{Report}
-use Rattle.like_promises.specs.Asked.{asks}
-use Rattle.like_promises.specs.Collected.{IsCollected}
-use Rattle.like_promises.specs.HotPages.{chosen_below, hot_by}
-use Rattle.like_promises.specs.Log.{TakesPlans}
 use Rattle.like_promises.specs.Order.{block, entry_of, is_due}
 use Rattle.like_promises.specs.RunStore.{count_at, start, store_after}
-use Rattle.like_promises.specs.Serial.{entries_by}
-use Rattle.like_promises.specs.Store.{replies}
-use Rattle.like_promises.specs.Workload.{Workload, workload_of}
-use Rattle.like_promises.specs.places.Tiling.{ArePlacesTiled}
+use Rattle.like_promises.specs.{Asked.asks, Collected.IsCollected, HotPages.chosen_below, HotPages.hot_by}
+use Rattle.like_promises.specs.{Log.TakesPlans, Serial.entries_by, Store.replies, Types.Ran, Types.Report}
+use Rattle.like_promises.specs.{Types.WorkerLog, Workload.Workload, Workload.workload_of, places.Tiling.ArePlacesTiled}
 
 -- the report of one thread, which ran these entries: those of each worker, in their order, are its run list, and there
 -- are no others; phases never fall; the replies are those of the store; final counts and last likes are the store's at

@@ -1,10 +1,7 @@
 -- Why a run gives no report.
 use Rattle.std.specs.Prelude.{List}
-use Rattle.like_requests.specs.Setup.{IsFirstBroken, IsWithinLimits}
-use Rattle.like_requests.specs.declared.request.Request.{Request}
-use Rattle.like_requests.specs.declared.setup.Setup.{Setup}
-use Rattle.like_promises.specs.declared.run_fault.RunFault.{RunFault}
-use Rattle.like_promises.specs.declared.run_fault.RunFault.TheVariants.{Settings, Memory, Start}
+use Rattle.like_requests.specs.{Setup.IsFirstBroken, Setup.IsWithinLimits, Types.Request, Types.Setup}
+use Rattle.like_promises.specs.Types.{Memory, RunFault, Settings, Start}
 
 -- the first limit that the settings and the lists break; or else memory ran out, or a thread could not be started
 abbrev pub IsRunFault : Setup → List (List Request) → RunFault → Type 0

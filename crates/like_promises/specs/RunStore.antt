@@ -1,10 +1,7 @@
 -- The store of a run.
 use Rattle.std.specs.Prelude.{ℕ, ◌+◌, ◌≤◌, nat_lt, List, filter, None}
-use Rattle.like_promises.specs.declared.log.Ran.{Ran}
-use Rattle.like_promises.specs.Asked.{asks}
-use Rattle.like_promises.specs.Likes.{initial_count}
 use Rattle.like_promises.specs.Store.{Store, after_all}
-use Rattle.like_promises.specs.Workload.{Workload}
+use Rattle.like_promises.specs.{Asked.asks, Likes.initial_count, Types.Ran, Workload.Workload}
 
 -- the store at first: the initial counts, and no last likes
 abbrev pub start : Workload → Store

@@ -1,12 +1,8 @@
 -- The run of one thread.
 use Rattle.std.specs.Prelude.{◌≡◌, ℕ, ◌+◌, ◌≤◌, ◌==◌, List, [], filter, map, take, slice_get, slice_index_or, AllPairs, Some}
 use Rattle.like_tables.specs.Share.{worker_of}
-use Rattle.like_promises.specs.declared.log.Ran.{Ran}
-use Rattle.like_promises.specs.Asked.{asks}
 use Rattle.like_promises.specs.Likes.{count_in, initial_count, likes_among, look_ran}
-use Rattle.like_promises.specs.RunStore.{start}
-use Rattle.like_promises.specs.Store.{replies}
-use Rattle.like_promises.specs.Workload.{Workload}
+use Rattle.like_promises.specs.{Asked.asks, RunStore.start, Store.replies, Types.Ran, Workload.Workload}
 
 -- the run list of a worker
 abbrev pub run_of : List (List Ran) → ℕ → List Ran

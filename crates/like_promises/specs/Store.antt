@@ -1,8 +1,7 @@
 -- The store: what one thread replies to each thing that is asked, and what that leaves.
 use Rattle.std.specs.Prelude.{ℕ, ◌+◌, ◌==◌, if◌then◌else◌, List, [], ◌∷◌, fold, Option, Some}
-use Rattle.like_requests.specs.declared.verdict.Verdict.{Verdict}
-use Rattle.like_promises.specs.declared.reply.Reply.{Reply}
-use Rattle.like_promises.specs.declared.reply.Reply.TheVariants.{Liked, Seen, Refused}
+use Rattle.like_requests.specs.Types.{Verdict}
+use Rattle.like_promises.specs.Types.{Liked, Refused, Reply, Seen}
 
 -- the store: the count of each page, and the page of each user's last like, if any
 pub record Store : Type 0 where

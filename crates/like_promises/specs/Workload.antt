@@ -1,11 +1,9 @@
 -- What a run serves.
 use Rattle.std.specs.Prelude.{ℕ, zero, suc, Bool, List, [], Vec, length, map, slice_get, slice_index_or, Option, None}
 use Rattle.std.specs.declared.alloc.Global.{Global}
-use Rattle.like_requests.specs.Pages.{Page, marks_of}
-use Rattle.like_requests.specs.declared.request.Request.{Request}
-use Rattle.like_requests.specs.declared.setup.Setup.{Setup}
-use Rattle.like_core.specs.Phase.{is_marked, split_by}
 use Rattle.like_limits.specs.Limits.{hot_pages}
+use Rattle.like_requests.specs.{Pages.Page, Pages.marks_of, Types.Request, Types.Setup}
+use Rattle.like_core.specs.Phase.{is_marked, split_by}
 
 -- what a run serves: how many users, which pages, how many looks may wait at a worker, hot pages of phases, plans
 pub record Workload : Type 0 where

@@ -1,8 +1,6 @@
 -- What an inbox hands over.
 use Rattle.std.specs.Prelude.{◌≡◌, ◌↔◌, ◌+◌, ◌≤◌, ℕ, List, length, slice_get, Some}
-use Rattle.like_requests.specs.declared.request.Request.{Request}
-use Rattle.like_requests.specs.declared.request.Taken.{Taken}
-use Rattle.like_requests.specs.declared.request.Taken.TheVariants.{Ask, End, Nothing}
+use Rattle.like_requests.specs.Types.{Ask, End, Nothing, Request, Taken}
 
 -- an inbox as its worker knows it: a submitter's plan, and how many of its items were taken
 pub record InboxView : Type 0 where

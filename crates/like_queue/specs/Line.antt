@@ -1,12 +1,10 @@
 -- What the two ends of a line know, and what their calls answer.
 use Rattle.std.specs.Prelude.{◌≡◌, ◌+◌, ◌<◌, ◌≤◌, ℕ, List, length, slice_get, Option, Some, Result, Ok, Err}
 use Rattle.atomic_table.specs.Seated.{TableId}
-use Rattle.like_requests.specs.declared.request.Request.{Request}
+use Rattle.like_requests.specs.Types.{Request}
 use Rattle.like_queue.specs.Inbox.{InboxView}
-use Rattle.like_queue.specs.declared.refused.EndRefused.{EndRefused}
-use Rattle.like_queue.specs.declared.refused.EndRefused.TheVariants as at_end
-use Rattle.like_queue.specs.declared.refused.PushRefused.{PushRefused}
-use Rattle.like_queue.specs.declared.refused.PushRefused.TheVariants as at_push
+use Rattle.like_queue.specs.declared.refused.EndRefused.{EndRefused, EndRefused as at_end}
+use Rattle.like_queue.specs.declared.refused.PushRefused.{PushRefused, PushRefused as at_push}
 
 -- how many items a line holds at most
 abbrev pub line_capacity : ℕ

@@ -1,9 +1,8 @@
 -- The lines of a run.
 use Rattle.std.specs.Prelude.{◌≡◌, ◌≤◌, List, length, map, All}
 use Rattle.like_limits.specs.Limits.{max_submitters}
-use Rattle.like_requests.specs.declared.request.Request.{Request}
-use Rattle.like_queue.specs.Line.{LineId, Sender, Taker}
-use Rattle.like_queue.specs.declared.lines.Lines.{Lines}
+use Rattle.like_requests.specs.Types.{Request}
+use Rattle.like_queue.specs.{Line.LineId, Line.Sender, Line.Taker, declared.lines.Lines.Lines}
 
 -- the pass or end of a line that sends, when nothing was sent
 abbrev pub new_sender : LineId → Sender

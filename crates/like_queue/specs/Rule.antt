@@ -1,11 +1,8 @@
 -- The rule of a line, which each step on its queue keeps.
 use Rattle.std.specs.Prelude.{◌≡◌, ◌⊎◌, ◌+◌, ◌≤◌, ℕ, List, [], ◌∷◌, ◌++◌, length, Option, Some, None}
-use Rattle.like_requests.specs.declared.request.Numbered.{Numbered}
-use Rattle.like_requests.specs.declared.request.Request.{Request}
-use Rattle.like_queue.specs.Inbox.{item_count}
-use Rattle.like_queue.specs.declared.known.Known.{Known}
-use Rattle.like_queue.specs.declared.known.Role.{Role}
-use Rattle.like_queue.specs.declared.known.Role.TheVariants.{Unsplit, Sends, Takes}
+use Rattle.like_requests.specs.Types.{Numbered, Request}
+use Rattle.like_queue.specs.declared.known.Role.TheVariants.{Sends, Takes, Unsplit}
+use Rattle.like_queue.specs.{Inbox.item_count, declared.known.Known.Known, declared.known.Role.Role}
 
 -- an item of a plan: a request with its number, or the end mark
 abbrev pub Item : Type 0

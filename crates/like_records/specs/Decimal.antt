@@ -1,7 +1,6 @@
 -- Whole numbers written in decimal.
 use Rattle.std.specs.Prelude.{◌≤◌, ℕ, List, length, All}
-use Rattle.std.specs.Char.{IsAsciiDigit}
-use Rattle.std.specs.Str.Parse.{digits_value}
+use Rattle.std.specs.{Char.IsAsciiDigit, Str.Parse.digits_value}
 
 -- the number that the digits of a text write
 abbrev pub decimal_value : List ℕ → ℕ

@@ -1,8 +1,6 @@
 -- The faults for the errors of CSV's reader.
-use Rattle.csv.specs.declared.error.ErrorKind.{ErrorKind}
-use Rattle.csv.specs.declared.error.ErrorKind.TheVariants as kind
-use Rattle.like_records.specs.declared.fault.RecordsFault.{RecordsFault}
-use Rattle.like_records.specs.declared.fault.RecordsFault.TheVariants as fault
+use Rattle.csv.specs.declared.error.ErrorKind.{ErrorKind, ErrorKind as kind}
+use Rattle.like_records.specs.declared.fault.RecordsFault.{RecordsFault, RecordsFault as fault}
 
 -- the fault for an error: the reader underneath failed, or else memory ran out
 abbrev pub fault_of : ErrorKind → RecordsFault

@@ -1,14 +1,11 @@
 -- How far a file's records were read, and what the next record does to that.
 use Rattle.std.specs.Prelude.{◌≡◌, ◌+◌, ℕ, Bool, true, false, List, [], ◌∷◌, length, Option, Some, None, option_map, Result, Ok, Err}
 use Rattle.std.specs.Option.{ForSome}
-use Rattle.csv.specs.Reading.{default_config, has_failed, strip_bom, records, records_from, Ready, is_flexible, reader_config, reader_trim}
-use Rattle.csv.specs.declared.parser.State.{State}
-use Rattle.csv.specs.declared.reader.Reader.{Reader}
-use Rattle.csv.specs.declared.reader.Trim.TheVariants as trim
-use Rattle.like_records.specs.declared.fault.RecordsFault.{RecordsFault}
-use Rattle.like_records.specs.declared.fault.RecordsFault.TheVariants as fault
-use Rattle.like_records.specs.declared.records.Progress.{Progress}
-use Rattle.like_records.specs.declared.records.Progress.TheVariants as progress
+use Rattle.csv.specs.Reading.{Ready, default_config, has_failed, is_flexible, reader_config, reader_trim, records}
+use Rattle.csv.specs.Reading.{records_from, strip_bom}
+use Rattle.csv.specs.declared.{parser.State.State, reader.Reader.Reader, reader.Trim.Trim as trim}
+use Rattle.like_records.specs.declared.fault.RecordsFault.{RecordsFault, RecordsFault as fault}
+use Rattle.like_records.specs.declared.records.Progress.{Progress, Progress as progress}
 
 -- the records still to be read, where the bytes to be read are known, the fields of the present record, and the fault with
 -- which CSV's reader has stopped, if it has

@@ -2,8 +2,7 @@
 use Rattle.std.specs.Prelude.{◌≡◌, ◌≢◌, ◌⊎◌, ◌+◌, ℕ, List, [], ◌∷◌, length, take, slice_index_or, slice_get, Some}
 use Rattle.std.specs.List.{AllByRecursion}
 use Rattle.like_records.specs.First.{FailsFirst}
-use Rattle.like_records.specs.declared.fault.RecordsFault.{RecordsFault}
-use Rattle.like_records.specs.declared.fault.RecordsFault.TheVariants as fault
+use Rattle.like_records.specs.declared.fault.RecordsFault.{RecordsFault, RecordsFault as fault}
 
 -- a record: its fields, each in bytes
 abbrev pub Record : Type 0

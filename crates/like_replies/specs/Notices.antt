@@ -1,10 +1,9 @@
 -- The notice on a report, beside it.
 use Rattle.std.specs.Prelude.{ℕ, Bool, if◌then◌else◌, List, Option, None, Some, ◌==◌}
-use Rattle.like_promises.specs.declared.report.Report.{Report}
-use Rattle.like_replies.specs.Refusals.{refusals_line}
+use Rattle.like_promises.specs.Types.{Report}
 use Rattle.like_replies.specs.Summary.{count_replies, is_refusal, summary_of, summary_text}
-use Rattle.like_replies.specs.declared.notice.Notice.{Notice}
-use Rattle.like_replies.specs.declared.notice.Notice.TheVariants.{Summed, Refused}
+use Rattle.like_replies.specs.declared.notice.Notice.TheVariants.{Refused, Summed}
+use Rattle.like_replies.specs.{Refusals.refusals_line, declared.notice.Notice.Notice}
 
 -- the summary of a report if it is asked for, else its refused requests if there are any
 abbrev pub notice_of : Bool → Report → Option Notice

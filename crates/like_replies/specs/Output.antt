@@ -1,8 +1,7 @@
 -- What a call that writes a text leaves of its output, and what its answer tells of it.
 use Rattle.std.specs.Prelude.{◌≡◌, ◌++◌, ℕ, List, Option, Result, MatchResult}
 use Rattle.std.specs.Io.KnownBytes.{Appends}
-use Rattle.like_replies.specs.declared.write_fault.WriteFault.{WriteFault}
-use Rattle.like_replies.specs.declared.write_fault.WriteFault.TheVariants.{Write, Memory}
+use Rattle.like_replies.specs.declared.write_fault.WriteFault.{TheVariants.Memory, TheVariants.Write, WriteFault}
 
 -- a front of a text was written, and nothing else, where what the output holds is known
 pub record HasBegun (old new : Option (List ℕ)) (text : List ℕ) : Type 0 where

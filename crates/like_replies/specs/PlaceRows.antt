@@ -1,14 +1,10 @@
 -- The rows of places, and the text of a report with them.
-use Rattle.std.specs.Prelude.{ℕ, if◌then◌else◌, List, [], ◌∷◌, ◌++◌, map, codes, decimal}
-use Rattle.std.specs.List.{enumerate_from, flat_map}
+use Rattle.std.specs.Prelude.{ℕ, if◌then◌else◌, List, [], ◌∷◌, ◌++◌, map, codes, decimal, flat_map}
+use Rattle.std.specs.List.{enumerate_from}
 use Rattle.like_requests.specs.Pages.{Page}
-use Rattle.like_promises.specs.declared.place.Place.{Place}
-use Rattle.like_promises.specs.declared.report.Report.{Report}
-use Rattle.like_promises.specs.Collected.{rows_of}
-use Rattle.like_promises.specs.places.Places.{lists_in}
-use Rattle.like_replies.specs.Reported.{shown_with}
-use Rattle.like_replies.specs.declared.extent.Extent.{Extent}
+use Rattle.like_promises.specs.{Collected.rows_of, Types.Place, Types.Report, places.Places.lists_in}
 use Rattle.like_replies.specs.Rows.{name_of, report_rows, rows_text}
+use Rattle.like_replies.specs.{Reported.shown_with, declared.extent.Extent.Extent}
 
 -- the row of a place of a page: the page's number, the worker, the phase, the count before, the page's name, the likes
 abbrev pub place_row : List Page → ℕ → Place → List (List ℕ)

@@ -1,9 +1,6 @@
 -- What a report's text shows of it, as lists.
 use Rattle.std.specs.Prelude.{ℕ, List, Option}
-use Rattle.like_promises.specs.declared.chosen.Chosen.{Chosen}
-use Rattle.like_promises.specs.declared.answer.Answer.{Answer}
-use Rattle.like_promises.specs.declared.report.Report.{Report}
-use Rattle.like_promises.specs.Collected.{rows_of}
+use Rattle.like_promises.specs.{Collected.rows_of, Types.Answer, Types.Chosen, Types.Report}
 
 -- the answers by submitter and number, the final count of each page, the page of each user's last like, and the phases
 -- with hot pages

@@ -2,8 +2,7 @@
 use Rattle.std.specs.Prelude.{ℕ, List, [], ◌∷◌, ◌++◌, codes, decimal}
 use Rattle.csv.specs.Writing.{default_writer, end_text, fields_text, row_body}
 use Rattle.like_requests.specs.Pages.{Page}
-use Rattle.like_promises.specs.declared.reply.Reply.{Reply}
-use Rattle.like_promises.specs.declared.place.Place.{Place}
+use Rattle.like_promises.specs.Types.{Place, Reply}
 use Rattle.like_replies.specs.Rows.{shown_fields}
 
 -- the first two fields of the rows of a submitter's requests, and the comma after them

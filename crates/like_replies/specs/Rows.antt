@@ -1,15 +1,10 @@
 -- The rows of a report, and their text.
-use Rattle.std.specs.Prelude.{◌≡◌, ◌≢◌, ◌<◌, ◌+◌, ⊤, ℕ, All, length, List, [], ◌∷◌, ◌++◌, map, filter, codes, decimal, slice_get, Option, option_map}
-use Rattle.std.specs.List.{enumerate_from, filter_map, flat_map, range_with_len}
-use Rattle.std.specs.Option.{ForSome, option_map_or}
+use Rattle.std.specs.Prelude.{◌≡◌, ◌≢◌, ◌<◌, ◌+◌, ⊤, ℕ, All, length, List, [], ◌∷◌, ◌++◌, map, filter, codes, decimal, slice_get, Option, option_map, filter_map, flat_map}
+use Rattle.std.specs.{List.enumerate_from, List.range_with_len, Option.ForSome, Option.option_map_or}
 use Rattle.csv.specs.Writing.{default_writer, row_text}
-use Rattle.like_requests.specs.Pages.{Page}
-use Rattle.like_requests.specs.declared.verdict.Verdict.TheVariants.{Accepted, UnknownUser, OtherHome, UnknownPage}
+use Rattle.like_requests.specs.{Pages.Page, Types.Accepted, Types.OtherHome, Types.UnknownPage, Types.UnknownUser}
 use Rattle.like_core.specs.Phase.{is_hot}
-use Rattle.like_promises.specs.declared.chosen.Chosen.{Chosen}
-use Rattle.like_promises.specs.declared.reply.Reply.{Reply}
-use Rattle.like_promises.specs.declared.reply.Reply.TheVariants.{Liked, Seen, Refused}
-use Rattle.like_promises.specs.declared.answer.Answer.{Answer}
+use Rattle.like_promises.specs.Types.{Answer, Chosen, Liked, Refused, Reply, Seen}
 use Rattle.like_replies.specs.Reported.{Reported}
 
 -- the name of a page

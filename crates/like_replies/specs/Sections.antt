@@ -1,12 +1,10 @@
 -- The sections of rows that a report and its places are written by.
-use Rattle.std.specs.Prelude.{◌≡◌, ◌<◌, ◌+◌, ◌^◌, ⊤, ℕ, All, List, [], ◌∷◌, length, map}
-use Rattle.std.specs.List.{flat_map}
+use Rattle.std.specs.Prelude.{◌≡◌, ◌<◌, ◌+◌, ◌^◌, ⊤, ℕ, All, List, [], ◌∷◌, length, map, flat_map}
 use Rattle.std.specs.Option.{ForSome}
 use Rattle.like_requests.specs.Pages.{Page}
-use Rattle.like_replies.specs.declared.report.section.Section.{Section}
-use Rattle.like_replies.specs.declared.report.section.Section.TheVariants.{Header, Answers, Counts, Users, Hot, Places}
-use Rattle.like_replies.specs.PlaceRows.{place_row}
 use Rattle.like_replies.specs.Rows.{IsShowable, answer_rows, header_row, hot_rows, liker_rows, page_rows}
+use Rattle.like_replies.specs.declared.report.section.Section.TheVariants.{Answers, Counts, Header, Hot, Places, Users}
+use Rattle.like_replies.specs.{PlaceRows.place_row, declared.report.section.Section.Section}
 
 -- the rows of a section
 abbrev pub section_rows : List Page → Section → List (List (List ℕ))

@@ -1,13 +1,7 @@
 -- The numbers of a report, and their text.
-use Rattle.std.specs.Prelude.{ℕ, Bool, false, true, List, ◌++◌, ◌+◌, length, codes, decimal, fold, bit_or, count_by, count_ones, sum_by}
-use Rattle.std.specs.Str.{bytes_eq}
-use Rattle.like_promises.specs.declared.chosen.Chosen.{Chosen}
-use Rattle.like_promises.specs.declared.report.Report.{Report}
-use Rattle.like_promises.specs.declared.replies.Replies.{Replies}
-use Rattle.like_promises.specs.declared.reply.Reply.{Reply}
-use Rattle.like_promises.specs.declared.reply.Reply.TheVariants.{Refused}
-use Rattle.like_replies.specs.Rows.{answer_word}
-use Rattle.like_replies.specs.declared.summary.Summary.{Summary}
+use Rattle.std.specs.Prelude.{ℕ, Bool, false, true, List, ◌++◌, ◌+◌, length, codes, decimal, fold, bit_or, count_by, count_ones, sum_by, bytes_eq}
+use Rattle.like_promises.specs.Types.{Chosen, Refused, Replies, Reply, Report}
+use Rattle.like_replies.specs.{Rows.answer_word, declared.summary.Summary.Summary}
 
 -- how many requests have a reply
 abbrev pub requests_in : Replies → ℕ

@@ -1,8 +1,7 @@
 -- The pages that the entries of a map from names are.
 use Rattle.std.specs.Prelude.{◌≡◌, ℕ, List, Vec, map, string_bytes}
 use Rattle.std.specs.declared.alloc.Global.{Global}
-use Rattle.like_requests.specs.declared.entries.Listed.{Listed}
-use Rattle.like_requests.specs.Pages.{Page, names}
+use Rattle.like_requests.specs.{Pages.Page, Pages.names, declared.entries.Listed.Listed}
 
 -- an entry: the bytes of a page's name, and the page
 abbrev pub NamedPage : Type 0

@@ -1,13 +1,12 @@
 -- What a pages file says: the records that CSV gives of it, and the pages or the fault.
 use Rattle.std.specs.Prelude.{◌≡◌, ◌≢◌, ◌⊎◌, ◌<◌, ℕ, List, [], ◌∷◌, length, map, Contains, bytes_eq, codes, ⊤}
-use Rattle.like_records.specs.Decimal.{IsDecimal, decimal_value}
-use Rattle.like_records.specs.declared.fault.RecordsFault.{RecordsFault}
-use Rattle.like_records.specs.declared.fault.RecordsFault.TheVariants as records
-use Rattle.like_requests.specs.Pages.{IsName, Page}
-use Rattle.like_records.specs.Rows.{Behind, IsFirstFailed, PassAll, Record, field}
 use Rattle.like_limits.specs.Limits.{max_count, max_pages}
-use Rattle.like_requests.specs.declared.pages_file.PagesFault.{PagesFault}
-use Rattle.like_requests.specs.declared.pages_file.PagesFault.TheVariants.{Read, Header, Fields, Name, Duplicate, Count, Split, TooMany, Empty, Memory}
+use Rattle.like_records.specs.Decimal.{IsDecimal, decimal_value}
+use Rattle.like_records.specs.Rows.{Behind, IsFirstFailed, PassAll, Record, field}
+use Rattle.like_records.specs.declared.fault.RecordsFault.{RecordsFault, RecordsFault as records}
+use Rattle.like_requests.specs.declared.pages_file.PagesFault.TheVariants.{Count, Duplicate, Empty, Fields, Header}
+use Rattle.like_requests.specs.declared.pages_file.PagesFault.TheVariants.{Memory, Name, Read, Split, TooMany}
+use Rattle.like_requests.specs.{Pages.IsName, Pages.Page, Types.PagesFault}
 
 abbrev pub pages_header : Record
 pages_header = codes "name" ∷ codes "count" ∷ codes "split" ∷ []

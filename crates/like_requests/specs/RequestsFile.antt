@@ -1,18 +1,12 @@
 -- What a requests file says: the records that CSV gives of it, and the requests or the fault.
 use Rattle.std.specs.Prelude.{◌≡◌, ◌≢◌, ◌⊎◌, ◌<◌, ℕ, List, [], ◌∷◌, length, map, bytes_eq, codes, if◌then◌else◌, Option, Some, None, ⊤}
-use Rattle.like_records.specs.Decimal.{IsDecimal, decimal_value}
-use Rattle.like_records.specs.declared.fault.RecordsFault.{RecordsFault}
-use Rattle.like_records.specs.declared.fault.RecordsFault.TheVariants as records
-use Rattle.like_requests.specs.Pages.{Page, number_of}
-use Rattle.like_records.specs.Rows.{Behind, IsFirstFailed, PassAll, Record, field}
-use Rattle.like_requests.specs.declared.request.Op.{Op}
-use Rattle.like_requests.specs.declared.request.Op.TheVariants.{Like, Look}
-use Rattle.like_requests.specs.declared.request.PageRef.{PageRef}
-use Rattle.like_requests.specs.declared.request.PageRef.TheVariants.{Known, Unknown}
-use Rattle.like_requests.specs.declared.request.Request.{Request}
 use Rattle.like_limits.specs.Limits.{max_requests, max_user}
-use Rattle.like_requests.specs.declared.requests_file.RequestsFault.{RequestsFault}
-use Rattle.like_requests.specs.declared.requests_file.RequestsFault.TheVariants as fault
+use Rattle.like_records.specs.Decimal.{IsDecimal, decimal_value}
+use Rattle.like_records.specs.Rows.{Behind, IsFirstFailed, PassAll, Record, field}
+use Rattle.like_records.specs.declared.fault.RecordsFault.{RecordsFault, RecordsFault as records}
+use Rattle.like_requests.specs.Pages.{Page, number_of}
+use Rattle.like_requests.specs.Types.{Known, Like, Look, Op, PageRef, Request, RequestsFault, RequestsFault as fault}
+use Rattle.like_requests.specs.Types.{Unknown}
 
 abbrev pub requests_header : Record
 requests_header = codes "op" ∷ codes "user" ∷ codes "page" ∷ []

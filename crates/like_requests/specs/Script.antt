@@ -1,10 +1,7 @@
 -- Which scripts fit a run.
 use Rattle.std.specs.Prelude.{◌≡◌, ℕ, ◌<◌, List, ⊤}
 use Rattle.like_records.specs.First.{IsFirstBad}
-use Rattle.like_requests.specs.declared.setup.SettingsFault.{SettingsFault}
-use Rattle.like_requests.specs.declared.setup.SettingsFault.TheVariants.{Script}
-use Rattle.like_requests.specs.declared.script.Turned.{Turned}
-use Rattle.like_requests.specs.declared.script.Turned.TheVariants.{OpenOne, Worker, Coordinator}
+use Rattle.like_requests.specs.Types.{Coordinator, OpenOne, Script, SettingsFault, Turned, Worker}
 
 -- the submitter or the worker of an entry exists, in a run of this many workers and submitters
 abbrev pub IsInRun : ℕ → ℕ → Turned → Type 0

@@ -1,14 +1,10 @@
 -- What a script file says: the records that CSV gives of it, and the entries or the fault.
 use Rattle.std.specs.Prelude.{◌≡◌, ◌≢◌, ◌⊎◌, ◌<◌, ℕ, zero, List, [], ◌∷◌, length, map, bytes_eq, codes, if◌then◌else◌, ⊤}
-use Rattle.like_records.specs.Decimal.{IsDecimal, decimal_value}
-use Rattle.like_records.specs.declared.fault.RecordsFault.{RecordsFault}
-use Rattle.like_records.specs.declared.fault.RecordsFault.TheVariants as records
-use Rattle.like_records.specs.Rows.{Behind, IsFirstFailed, PassAll, Record, field}
 use Rattle.like_limits.specs.Limits.{max_entries, max_index}
-use Rattle.like_requests.specs.declared.script_file.ScriptFault.{ScriptFault}
-use Rattle.like_requests.specs.declared.script_file.ScriptFault.TheVariants as fault
-use Rattle.like_requests.specs.declared.script.Turned.{Turned}
-use Rattle.like_requests.specs.declared.script.Turned.TheVariants.{OpenOne, Worker, Coordinator}
+use Rattle.like_records.specs.Decimal.{IsDecimal, decimal_value}
+use Rattle.like_records.specs.Rows.{Behind, IsFirstFailed, PassAll, Record, field}
+use Rattle.like_records.specs.declared.fault.RecordsFault.{RecordsFault, RecordsFault as records}
+use Rattle.like_requests.specs.Types.{Coordinator, OpenOne, ScriptFault, ScriptFault as fault, Turned, Worker}
 
 abbrev pub script_header : Record
 script_header = codes "turn" ∷ codes "index" ∷ []

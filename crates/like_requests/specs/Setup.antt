@@ -1,16 +1,13 @@
 -- The limits of a run.
 use Rattle.std.specs.Prelude.{ℕ, ◌<◌, ◌≤◌, List, [], ◌∷◌, ◌++◌, length, map, slice_index_or, All, Option, ⊤}
-use Rattle.std.specs.List.{AllByRecursion, range_with_len}
-use Rattle.std.specs.Option.{ForSome}
+use Rattle.std.specs.{List.AllByRecursion, List.range_with_len, Option.ForSome}
+use Rattle.like_limits.specs.Limits.{max_hot, max_requests, max_stash, max_submitters, max_turns, max_users}
+use Rattle.like_limits.specs.Limits.{max_workers}
 use Rattle.like_records.specs.First.{FailsFirst}
 use Rattle.like_requests.specs.Pages.{Page}
-use Rattle.like_requests.specs.declared.request.PageRef.{PageRef}
-use Rattle.like_requests.specs.declared.request.PageRef.TheVariants.{Known, Unknown}
-use Rattle.like_requests.specs.declared.request.Request.{Request}
-use Rattle.like_limits.specs.Limits.{max_hot, max_requests, max_stash, max_submitters, max_turns, max_users, max_workers}
-use Rattle.like_requests.specs.declared.setup.Setup.{Setup}
-use Rattle.like_requests.specs.declared.setup.SettingsFault.{SettingsFault}
-use Rattle.like_requests.specs.declared.setup.SettingsFault.TheVariants.{Workers, Submitters, Users, Stash, Turns, Plan, Script, Hot}
+use Rattle.like_requests.specs.Types.{Known, PageRef, Request, Script, SettingsFault, Setup, Unknown}
+use Rattle.like_requests.specs.declared.setup.SettingsFault.TheVariants.{Hot, Plan, Stash, Submitters, Turns, Users}
+use Rattle.like_requests.specs.declared.setup.SettingsFault.TheVariants.{Workers}
 
 -- a page that a request knows is one of this many
 abbrev pub IsThere : ℕ → PageRef → Type 0

@@ -1,9 +1,6 @@
 -- Which requests are accepted, and why the others are not.
 use Rattle.std.specs.Prelude.{ℕ, Bool, true, false, not, ◌%◌, ◌==◌, nat_lt, if◌then◌else◌}
-use Rattle.like_requests.specs.declared.request.PageRef.{PageRef}
-use Rattle.like_requests.specs.declared.request.PageRef.TheVariants.{Known, Unknown}
-use Rattle.like_requests.specs.declared.verdict.Verdict.{Verdict}
-use Rattle.like_requests.specs.declared.verdict.Verdict.TheVariants.{Accepted, UnknownUser, OtherHome, UnknownPage}
+use Rattle.like_requests.specs.Types.{Accepted, Known, OtherHome, PageRef, Unknown, UnknownPage, UnknownUser, Verdict}
 
 -- the submitter that serves a user
 abbrev pub home : ℕ → ℕ → ℕ

@@ -1,20 +1,15 @@
 -- A replay: which entries a crew can make, how it ends, and why there is no report.
 use Rattle.std.specs.Prelude.{◌≡◌, ◌⊎◌, ◌<◌, List, length, All, ⊤}
 use Rattle.std.specs.List.{AllZip}
-use Rattle.like_requests.specs.Setup.{IsFirstBroken, IsWithinLimits}
-use Rattle.like_requests.specs.declared.request.Request.{Request}
-use Rattle.like_requests.specs.declared.setup.Setup.{Setup}
-use Rattle.like_run.specs.declared.rounds.fault.ReplayFault.{ReplayFault}
-use Rattle.like_run.specs.declared.rounds.fault.ReplayFault.TheVariants.{Settings, Memory, Unfinished}
-use Rattle.like_requests.specs.declared.script.Turned.{Turned}
-use Rattle.like_requests.specs.declared.script.Turned.TheVariants.{OpenOne, Worker, Coordinator}
+use Rattle.like_requests.specs.Types.{Coordinator, OpenOne, Request, Setup, Turned, Worker}
+use Rattle.like_requests.specs.{Script.IsFirstAway, Script.IsInRun, Setup.IsFirstBroken, Setup.IsWithinLimits}
 use Rattle.like_ending.specs.Laws.{MayLast}
+use Rattle.like_promises.specs.Types.{Report}
 use Rattle.like_crew.specs.Crew.{CrewView, HasInbox, IsNewCrew}
-use Rattle.like_crew.specs.Progress.{items_of}
-use Rattle.like_crew.specs.Server.{IsLogOf, ServerView}
-use Rattle.like_promises.specs.declared.report.Report.{Report}
-use Rattle.like_requests.specs.Script.{IsFirstAway, IsInRun}
+use Rattle.like_crew.specs.{Progress.items_of, Server.IsLogOf, Server.ServerView}
 use Rattle.like_run.specs.Script.{MakesMostRounds, Plays, PlaysToEnd, max_rounds}
+use Rattle.like_run.specs.declared.rounds.fault.ReplayFault.TheVariants.{Memory, Settings, Unfinished}
+use Rattle.like_run.specs.declared.rounds.fault.ReplayFault.{ReplayFault}
 
 -- a crew with these servers can make an entry: its submitter has an inbox, or its worker exists
 abbrev pub CanMake : List ServerView → Turned → Type 0

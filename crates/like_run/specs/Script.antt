@@ -1,12 +1,9 @@
 -- How a replay follows its script.
 use Rattle.std.specs.Prelude.{◌≡◌, ◌<◌, ℕ, zero, suc, false, true, List}
 use Rattle.std.specs.List.{AllZip}
-use Rattle.like_requests.specs.declared.script.Turned.{Turned}
-use Rattle.like_crew.specs.Crew.{CrewView, GoesOn}
-use Rattle.like_crew.specs.declared.outcome.Outcome.{Outcome}
-use Rattle.like_crew.specs.Outcome.{IsOutcome}
-use Rattle.like_crew.specs.ServerTurns.{OpensAll}
-use Rattle.like_crew.specs.Steps.{FreshRound, MakesAll}
+use Rattle.like_requests.specs.Types.{Turned}
+use Rattle.like_crew.specs.{Crew.CrewView, Crew.GoesOn, Steps.FreshRound, Steps.MakesAll}
+use Rattle.like_crew.specs.{Outcome.IsOutcome, ServerTurns.OpensAll, declared.outcome.Outcome.Outcome}
 
 -- this many rounds are made, with none of which the run ends
 abbrev pub MakesRounds : ℕ → CrewView → CrewView → Type 0

@@ -1,13 +1,9 @@
 -- A run on threads: what the threads of its workers end with.
 use Rattle.std.specs.Prelude.{◌≡◌, ◌+◌, ◌≤◌, ℕ, List, length, ⊤, false}
-use Rattle.like_crew.specs.Crew.{CrewView}
-use Rattle.like_crew.specs.declared.ended.Ended.{Ended}
+use Rattle.like_promises.specs.Types.{Memory, RunFault, Settings, Start}
 use Rattle.like_crew.specs.Ended.{HasLeft, IsEnded, IsSeatOf}
-use Rattle.like_crew.specs.Server.{ServerView}
-use Rattle.like_promises.specs.declared.run_fault.RunFault.{RunFault}
-use Rattle.like_promises.specs.declared.run_fault.RunFault.TheVariants.{Settings, Memory, Start}
-use Rattle.like_run.specs.declared.threads.worker.Served.{Served}
-use Rattle.like_run.specs.declared.threads.worker.Served.TheVariants.{Left, Stopped}
+use Rattle.like_crew.specs.{Crew.CrewView, Server.ServerView, declared.ended.Ended.Ended}
+use Rattle.like_run.specs.declared.threads.worker.Served.{Served, TheVariants.Left, TheVariants.Stopped}
 
 -- what a thread that began with this server ends with: what the server left; or the token that says that no thread goes
 -- on, and the seat with which it began, unused

@@ -1,24 +1,15 @@
 -- How a station is kept: `W` is what waits, and `C` and `T` keep the likes of its slice and the numbers of their
 -- buckets.
 use Rattle.std.specs.Prelude.{◌≡◌, ◌↔◌, ℕ, ◌+◌, ◌<◌, ◌≤◌, nat_lt, Bool, true, false, ◌&&◌, ◌||◌, List, [], length, sum}
-use Rattle.like_core.specs.Functions.{has_bit}
-use Rattle.like_core.specs.declared.opening.Opening.{Opening}
-use Rattle.like_core.specs.Additions.{all_added}
-use Rattle.like_core.specs.PageSteps.{additions_among}
-use Rattle.like_core.specs.OpeningLimits.{AreLimits, has_slots}
+use Rattle.like_limits.specs.{Buckets.bucket, Buckets.buckets, Buckets.run_factor, Limits.hot_pages}
 use Rattle.like_core.specs.Phase.{IsJoined, IsSplit, is_hot, is_hot_by, is_marked}
-use Rattle.like_core.specs.Post.{IsFresh, is_split_at, pages_of}
-use Rattle.like_core.specs.Slots.{IsInSlot}
-use Rattle.like_core.specs.WorkerState.{RunsSplit}
-use Rattle.like_core.specs.declared.view.WorkerSeatView.{WorkerSeatView}
-use Rattle.like_core.specs.declared.worker_state.WorkerState.TheVariants.{Runs}
-use Rattle.like_limits.specs.Buckets.{bucket, buckets, run_factor}
-use Rattle.like_limits.specs.Limits.{hot_pages}
+use Rattle.like_core.specs.{Additions.all_added, Functions.has_bit, OpeningLimits.AreLimits, OpeningLimits.has_slots}
+use Rattle.like_core.specs.{PageSteps.additions_among, Post.IsFresh, Post.is_split_at, Post.pages_of, Slots.IsInSlot}
+use Rattle.like_core.specs.{Types.Opening, Types.Runs, Types.WorkerSeatView, WorkerState.RunsSplit}
 use Rattle.like_tables.specs.SplitSlice.{HasNumbers, IsSplitSlice, SplitSlice, bucket_in, by_page, has_split}
 use Rattle.like_tables.specs.UserTable.{UserTable}
 use Rattle.like_seat.specs.StationView.{IsStationOf, StationView}
-use Rattle.like_seat.specs.Steps.{masks_entered}
-use Rattle.like_seat.specs.declared.tables.Tables.{Tables}
+use Rattle.like_seat.specs.{Steps.masks_entered, declared.tables.Tables.Tables}
 
 -- the station of a post and what is kept beside it
 abbrev pub view_of : {W C : Type 0} → List ℕ → WorkerSeatView → Tables W C → StationView W

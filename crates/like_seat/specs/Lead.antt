@@ -1,19 +1,13 @@
 -- What leads the phases of a board, and what each of its steps does to it.
 use Rattle.std.specs.Prelude.{◌≡◌, ℕ, ◌+◌, ◌-◌, nat_le, if◌then◌else◌, Bool, true, List, [], ◌∷◌, length, map, min, take, slice_index, Option, Some, None}
 use Rattle.std.specs.List.{range_with_len}
-use Rattle.like_board.specs.Led.{IsSightOf}
-use Rattle.like_board.specs.Seats.{BoardId}
-use Rattle.like_core.specs.declared.sight.CoordSight.{CoordSight}
-use Rattle.like_core.specs.declared.view.CoordSeatView.{CoordSeatView}
-use Rattle.like_core.specs.declared.view.View.TheVariants.{Coord}
 use Rattle.like_limits.specs.Limits.{hot_pages}
-use Rattle.like_core.specs.Phase.{IsJoined}
-use Rattle.like_core.specs.OpeningLimits.{has_slots}
-use Rattle.like_core.specs.Slots.{IsChoice, mask_of_slots}
-use Rattle.like_core.specs.views.Actions.{Surveys}
-use Rattle.like_core.specs.views.Shows.{IsKnown}
-use Rattle.like_core.specs.views.Views.{SawAllIn, announced_coord, counted_coord, looked_coord, published_coord, released_coord}
-use Rattle.like_core.specs.Functions.{has_bit, mask}
+use Rattle.like_core.specs.Types.{Coord, CoordSeatView, CoordSight}
+use Rattle.like_core.specs.views.Views.{SawAllIn, announced_coord, counted_coord, looked_coord, published_coord}
+use Rattle.like_core.specs.views.Views.{released_coord}
+use Rattle.like_core.specs.{Functions.has_bit, Functions.mask, Slots.IsChoice, Slots.mask_of_slots}
+use Rattle.like_core.specs.{OpeningLimits.has_slots, Phase.IsJoined, views.Actions.Surveys, views.Shows.IsKnown}
+use Rattle.like_board.specs.{Led.IsSightOf, Seats.BoardId}
 
 -- its board; what its seat knows; how many likes make a page hot, if any do; and the counts at its last choice of the
 -- pages that may be hot

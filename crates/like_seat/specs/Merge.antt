@@ -1,14 +1,9 @@
 -- The merge of a whole slice.
 use Rattle.std.specs.Prelude.{◌≡◌, ℕ, List, [], ◌++◌, map, replicate, slice_index, All}
 use Rattle.std.specs.List.Sorted.{IsStrictlyIncreasing}
-use Rattle.like_core.specs.declared.log.LogEntry.TheVariants.{Did}
-use Rattle.like_core.specs.declared.log.Logged.{Logged}
-use Rattle.like_core.specs.declared.page_step.PageStep.{PageStep}
-use Rattle.like_core.specs.declared.view.Addition.{Addition}
-use Rattle.like_core.specs.Additions.{added_to}
-use Rattle.like_core.specs.PageSteps.{step_adding, then_steps}
-use Rattle.like_core.specs.Post.{answered, pages_of}
 use Rattle.like_limits.specs.Buckets.{bucket}
+use Rattle.like_core.specs.{Additions.added_to, PageSteps.step_adding, PageSteps.then_steps, Post.answered}
+use Rattle.like_core.specs.{Post.pages_of, Types.Addition, Types.Did, Types.Logged, Types.PageStep}
 use Rattle.like_seat.specs.StationView.{StationView, phase_at}
 
 -- additions merge a slice in a phase: each has all the likes of its page, and is of the phase; together they have what

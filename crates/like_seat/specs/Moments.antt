@@ -1,12 +1,9 @@
 -- Posts at a moment of their board, which is between any two atomic steps.
 use Rattle.std.specs.Prelude.{◌≡◌, ℕ, List, slice_index}
-use mathlib.Core.Option.{some}
 use lib.ListN.{get_elem?}
-use Rattle.like_core.specs.declared.opening.Opening.{Opening}
-use Rattle.like_core.specs.declared.view.View.TheVariants.{Worker}
-use Rattle.like_core.specs.declared.view.WorkerSeatView.{WorkerSeatView}
-use Rattle.like_core.specs.WorkerState.{RunsJoined, RunsSplit}
-use Rattle.like_core.specs.views.Shows.{Moment}
+use mathlib.Core.Option.{some}
+use Rattle.like_core.specs.Types.{Opening, Worker, WorkerSeatView}
+use Rattle.like_core.specs.{WorkerState.RunsJoined, WorkerState.RunsSplit, views.Shows.Moment}
 use Rattle.like_seat.specs.StationView.{IsSliceInSplit}
 
 -- a post at a moment: a worker's seat knows this there

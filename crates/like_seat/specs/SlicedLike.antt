@@ -1,6 +1,6 @@
 -- A like that a station counted in its slice.
 use Rattle.std.specs.Prelude.{ℕ, List, refl}
-use Rattle.std.specs.Coded.{Coded, code_by, coded×, coded_ℕ, coded_list}
+use Rattle.std.specs.Coded.{Coded, code_by, coded_list, coded_ℕ, coded×}
 
 -- its page, and how many looks the station had made before
 pub record SlicedLike : Type 0 where

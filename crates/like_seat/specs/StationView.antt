@@ -1,16 +1,11 @@
 -- What a worker's station is, as contracts see it.
 use Rattle.std.specs.Prelude.{◌≡◌, ◌≢◌, ℕ, ◌+◌, ◌≤◌, false, true, List, length, slice_index, sum}
-use Rattle.like_core.specs.Additions.{all_added}
-use Rattle.like_core.specs.OpeningLimits.{AreLimits, has_slots}
-use Rattle.like_core.specs.PhaseMasks.{HasMask}
-use Rattle.like_core.specs.Post.{additions_of, is_split_at, pages_of}
-use Rattle.like_core.specs.WorkerState.{RunsSplit, phase_of}
-use Rattle.like_core.specs.PageSteps.{additions_among}
-use Rattle.like_core.specs.declared.view.WorkerSeatView.{WorkerSeatView}
 use Rattle.like_limits.specs.Buckets.{run_factor}
+use Rattle.like_core.specs.{Additions.all_added, OpeningLimits.AreLimits, OpeningLimits.has_slots}
+use Rattle.like_core.specs.{PageSteps.additions_among, PhaseMasks.HasMask, Post.additions_of, Post.is_split_at}
+use Rattle.like_core.specs.{Post.pages_of, Types.WorkerSeatView, WorkerState.RunsSplit, WorkerState.phase_of}
+use Rattle.like_tables.specs.{StashView.IsStash, StashView.StashView, UserTable.UserTable}
 use Rattle.like_seat.specs.SlicedLike.{SlicedLike}
-use Rattle.like_tables.specs.UserTable.{UserTable}
-use Rattle.like_tables.specs.StashView.{IsStash, StashView}
 
 -- the numbers that tell its board from others; its post; its stash, which is its backlog in a joined phase; its slice,
 -- a number for each page; all likes that ever went into its slice, in order; and the last likes of its users

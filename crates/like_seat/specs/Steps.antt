@@ -1,16 +1,13 @@
 -- What each step of a station does to it. One that has an entry in the board's log has its number in the view after it.
 use Rattle.std.specs.Prelude.{◌≡◌, ◌≢◌, ℕ, ◌+◌, ◌%◌, ◌<◌, ◌≤◌, ◌==◌, if◌then◌else◌, true, false, List, [], ◌∷◌, ◌++◌, drop, length, replicate, slice_index, slice_set, Option, Some, MatchOption}
-use Rattle.like_core.specs.declared.sight.Sight.{Sight}
-use Rattle.like_core.specs.declared.view.PhaseMask.{PhaseMask}
-use Rattle.like_core.specs.Post.{added, additions_of, has_glanced, has_read, is_split_at, looked_at, number_of, pages_of, returned}
-use Rattle.like_core.specs.WorkerState.{IsRunning, IsSightOf, SeesEndingStill, phase_of, seen}
-use Rattle.like_core.specs.declared.view.WorkerSeatView.{WorkerSeatView}
 use Rattle.like_limits.specs.Buckets.{bucket}
+use Rattle.like_core.specs.Post.{added, additions_of, has_glanced, has_read, is_split_at, looked_at, number_of}
+use Rattle.like_core.specs.Post.{pages_of, returned}
+use Rattle.like_core.specs.WorkerState.{IsRunning, IsSightOf, SeesEndingStill, phase_of, seen}
+use Rattle.like_core.specs.{Types.Sight, Types.WorkerSeatView, declared.view.PhaseMask.PhaseMask}
 use Rattle.like_tables.specs.UserTable.{UserTable, last_of, with_last}
-use Rattle.like_seat.specs.declared.merged.Merged.{Merged}
-use Rattle.like_seat.specs.declared.seen.Seen.{Seen}
 use Rattle.like_seat.specs.StationView.{IsStation, StationView, tally_of}
-use Rattle.like_seat.specs.SlicedLike.{sliced_like}
+use Rattle.like_seat.specs.{SlicedLike.sliced_like, declared.merged.Merged.Merged, declared.seen.Seen.Seen}
 
 -- a station that has done nothing yet: it holds nothing, its slice is empty, and no like ever went into it
 pub record IsNewStation {W : Type 0} (board : List ℕ) (post : WorkerSeatView) (room : ℕ) (users : UserTable) (s : StationView W)

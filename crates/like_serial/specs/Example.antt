@@ -1,19 +1,9 @@
 -- An example: two workers like a page each, and then each looks at the page that the other liked.
-use Rattle.std.specs.Prelude.{ℕ, false, List, [], ◌∷◌, Some}
-use Rattle.std.specs.List.{flat_map}
-use Rattle.like_requests.specs.Pages.{Page}
-use Rattle.like_requests.specs.declared.request.Op.TheVariants.{Like, Look}
-use Rattle.like_requests.specs.declared.request.PageRef.TheVariants.{Known}
-use Rattle.like_requests.specs.declared.request.Request.{Request}
-use Rattle.like_promises.specs.declared.log.Ran.{Ran}
-use Rattle.like_promises.specs.declared.reply.Reply.{Reply}
-use Rattle.like_promises.specs.declared.reply.Reply.TheVariants.{Liked, Seen}
-use Rattle.like_promises.specs.Replies.{HasRightCounts}
-use Rattle.like_promises.specs.Serial.{IsSerial, run_of}
-use Rattle.like_promises.specs.Workload.{Workload}
-use Rattle.like_core.specs.declared.page_step.PageCall.{PageCall}
-use Rattle.like_core.specs.declared.page_step.PageCall.TheVariants.{Add, Read}
-use Rattle.like_core.specs.declared.page_step.PageStep.{PageStep}
+use Rattle.std.specs.Prelude.{ℕ, false, List, [], ◌∷◌, Some, flat_map}
+use Rattle.like_requests.specs.{Pages.Page, Types.Known, Types.Like, Types.Look, Types.Request}
+use Rattle.like_core.specs.Types.{Add, PageCall, PageStep, Read}
+use Rattle.like_promises.specs.Types.{Liked, Ran, Reply, Seen}
+use Rattle.like_promises.specs.{Replies.HasRightCounts, Serial.IsSerial, Serial.run_of, Workload.Workload}
 use Rattle.like_serial.specs.RunLists.{AreRunLists, FitsRuns}
 
 -- a page that nobody has liked yet

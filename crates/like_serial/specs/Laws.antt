@@ -1,19 +1,11 @@
 -- The laws of run lists, and of reports by a store.
 use Rattle.std.specs.Prelude.{◌≡◌, ℕ, ◌+◌, List, map}
-use Rattle.like_requests.specs.declared.request.Request.{Request}
-use Rattle.like_requests.specs.declared.setup.Setup.{Setup}
-use Rattle.like_promises.specs.declared.log.Ran.{Ran}
-use Rattle.like_promises.specs.declared.report.Report.{Report}
-use Rattle.like_promises.specs.Asked.{asks}
-use Rattle.like_promises.specs.EndToEnd.{IsRightReport}
-use Rattle.like_promises.specs.Likes.{likes_within}
-use Rattle.like_promises.specs.Replies.{HasRightAnswers, HasRightCounts}
-use Rattle.like_promises.specs.Report.{IsRunOf, grew, workload_by}
-use Rattle.like_promises.specs.RunStore.{start}
+use Rattle.like_requests.specs.Types.{Request, Setup}
+use Rattle.like_core.specs.Types.{PageStep}
 use Rattle.like_promises.specs.Serial.{HasExactCounts, HasOneOrder, IsSerial, run_of}
-use Rattle.like_promises.specs.Store.{replies}
-use Rattle.like_promises.specs.Workload.{Workload}
-use Rattle.like_core.specs.declared.page_step.PageStep.{PageStep}
+use Rattle.like_promises.specs.{Asked.asks, EndToEnd.IsRightReport, Likes.likes_within, Replies.HasRightAnswers}
+use Rattle.like_promises.specs.{Replies.HasRightCounts, Report.IsRunOf, Report.grew, Report.workload_by, RunStore.start}
+use Rattle.like_promises.specs.{Store.replies, Types.Ran, Types.Report, Workload.Workload}
 use Rattle.like_serial.specs.RunLists.{AreRunLists, FitsRuns}
 
 -- where one order of page steps fits the run lists, there is a serial list of their entries

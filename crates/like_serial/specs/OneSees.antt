@@ -1,8 +1,6 @@
 -- Of two workers that each add to a page and then read the other's page, one at least reads the other's likes.
 use Rattle.std.specs.Prelude.{◌≡◌, ◌⊎◌, ℕ, ◌+◌, ◌<◌, ◌≤◌, List, slice_get, Some}
-use Rattle.like_core.specs.declared.page_step.PageCall.TheVariants.{Add, Read}
-use Rattle.like_core.specs.declared.page_step.PageStep.{PageStep}
-use Rattle.like_core.specs.PageSteps.{AreInTurn, likes_of}
+use Rattle.like_core.specs.{PageSteps.AreInTurn, PageSteps.likes_of, Types.Add, Types.PageStep, Types.Read}
 
 -- a worker's addition, and a read by which it later reads, by their places in the list of steps, the latest first
 pub record AddsThenReads (steps : List PageStep) (addition reading : PageStep) : Type 0 where

@@ -1,13 +1,10 @@
 -- Run lists, and one order of page steps that fits them.
 use Rattle.std.specs.Prelude.{◌≡◌, ℕ, ◌==◌, List, filter, All}
-use Rattle.like_tables.specs.Share.{worker_of}
-use Rattle.like_promises.specs.declared.log.Ran.{Ran}
-use Rattle.like_promises.specs.Likes.{initial_count, likes_within}
-use Rattle.like_promises.specs.Replies.{HasRightAnswers}
-use Rattle.like_promises.specs.Serial.{AreRising, run_of}
-use Rattle.like_promises.specs.Workload.{Workload}
-use Rattle.like_core.specs.declared.page_step.PageStep.{PageStep}
 use Rattle.like_core.specs.PageSteps.{AreInTurn, earliest_first, likes_in, steps_by}
+use Rattle.like_core.specs.Types.{PageStep}
+use Rattle.like_tables.specs.Share.{worker_of}
+use Rattle.like_promises.specs.Likes.{initial_count, likes_within}
+use Rattle.like_promises.specs.{Replies.HasRightAnswers, Serial.AreRising, Serial.run_of, Types.Ran, Workload.Workload}
 use Rattle.like_serial.specs.StepsTold.{plain_told, steps_ran}
 
 -- run lists of workers: each is of its worker's submitters alone, its phases never fall, and its answers are right

@@ -1,14 +1,8 @@
 -- What replies tell of steps at pages.
-use Rattle.std.specs.Prelude.{ℕ, Bool, not, if◌then◌else◌, List, map, filter, Option, Some, None, option_and_then}
-use Rattle.std.specs.List.{filter_map}
-use Rattle.like_promises.specs.declared.log.Ran.{Ran}
-use Rattle.like_promises.specs.Asked.{asked}
-use Rattle.like_promises.specs.Likes.{count_in}
+use Rattle.std.specs.Prelude.{ℕ, Bool, not, if◌then◌else◌, List, map, filter, Option, Some, None, option_and_then, filter_map}
+use Rattle.like_core.specs.Types.{Add, Glance, PageCall, PageStep, Read}
 use Rattle.like_promises.specs.Store.{Ask, like, look, refuse}
-use Rattle.like_promises.specs.Workload.{Workload, is_split_in}
-use Rattle.like_core.specs.declared.page_step.PageCall.{PageCall}
-use Rattle.like_core.specs.declared.page_step.PageCall.TheVariants.{Add, Read, Glance}
-use Rattle.like_core.specs.declared.page_step.PageStep.{PageStep}
+use Rattle.like_promises.specs.{Asked.asked, Likes.count_in, Types.Ran, Workload.Workload, Workload.is_split_in}
 
 -- a step without the count that an addition found, which no reply tells: `count` is 0 then
 pub record StepTold : Type 0 where

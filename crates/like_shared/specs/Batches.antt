@@ -1,12 +1,7 @@
 -- A batch of rows is a list of calls.
 use Rattle.std.specs.Prelude.{◌≡◌, ℕ, ◌+◌, ◌≤◌, List, [], ◌∷◌, ◌++◌, flat_map, take, Result, Ok, Err}
-use Rattle.like_live.specs.declared.call.Answer.{Answer}
-use Rattle.like_live.specs.declared.call.Call.{Call}
-use Rattle.like_live.specs.Batch.{RunCase}
-use Rattle.like_live.specs.History.{HasDone, Told}
-use Rattle.like_live.specs.LiveView.{LiveView}
-use Rattle.like_shared.specs.Deeds.{calls_of}
-use Rattle.like_shared.specs.Rows.{IsAnswerTo, deeds_of_call}
+use Rattle.like_live.specs.{Batch.RunCase, History.HasDone, History.Told, LiveView.LiveView, Types.Answer, Types.Call}
+use Rattle.like_shared.specs.{Deeds.calls_of, Rows.IsAnswerTo, Rows.deeds_of_call}
 
 -- a row asked for this call, and was told its answer; or it asked for none
 pub data IsToldOne {R T : Type 0} (asks : R → Result Call T) (tells : Answer → T) (row : R) (told : T) (one : List Told)

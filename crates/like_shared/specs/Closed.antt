@@ -1,19 +1,14 @@
 -- The end of a shared service.
 use Rattle.std.specs.Prelude.{◌≡◌, ◌≢◌, ℕ, List, map}
-use Rattle.told_lock.specs.Deeds.{Leads, Named}
-use Rattle.told_lock.specs.Rights.{seens_of, told_of}
-use Rattle.like_live.specs.declared.opening.Opening.{Opening}
-use Rattle.like_live.specs.Driver.{DriverView}
-use Rattle.like_live.specs.LiveView.{LiveView}
+use Rattle.told_lock.specs.{Deeds.Leads, Deeds.Named, Rights.seens_of, Rights.told_of}
 use Rattle.like_live.specs.Service.{AreGone, AreItsSeats, AreOpened, IsClosedService}
-use Rattle.like_shared.specs.declared.deed.SeatDeed.{SeatDeed}
-use Rattle.like_shared.specs.declared.service.NotClosed.{NotClosed}
-use Rattle.like_shared.specs.declared.service.NotClosed.TheVariants.{ClientOut, SeatNotGone}
-use Rattle.like_shared.specs.declared.service.ServiceKeeper.{ServiceKeeper}
-use Rattle.like_shared.specs.declared.service.SharedService.{SharedService}
+use Rattle.like_live.specs.{Driver.DriverView, LiveView.LiveView, Types.Opening}
 use Rattle.like_shared.specs.Deeds.{DriverDoes}
 use Rattle.like_shared.specs.Shared.{clients_out, first_driver, first_seats, seats_seen, seats_told}
 use Rattle.like_shared.specs.Strict.{DriverEnd, IsStrictlyShared, SeatEnd, firsts, lasts}
+use Rattle.like_shared.specs.declared.service.NotClosed.TheVariants.{ClientOut, SeatNotGone}
+use Rattle.like_shared.specs.declared.{deed.SeatDeed.SeatDeed, service.NotClosed.NotClosed}
+use Rattle.like_shared.specs.declared.{service.ServiceKeeper.ServiceKeeper, service.SharedService.SharedService}
 
 -- what clients told of seats leads from these to those, in orders that continue what they have seen
 pub record AreEndsOf (first : List LiveView) (told : List (Named SeatDeed)) (seen : List (List (Named SeatDeed)))

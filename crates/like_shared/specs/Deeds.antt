@@ -1,16 +1,13 @@
 -- The calls that clients make, with their answers, and what they do.
 use Rattle.std.specs.Prelude.{◌≡◌, ◌↔◌, ℕ, ◌+◌, ◌≤◌, Bool, IsTrue, List, [], ◌∷◌, length, take}
-use Rattle.like_choice.specs.Slots.{pages_in_use}
 use Rattle.like_limits.specs.Limits.{hot_pages}
+use Rattle.like_choice.specs.Slots.{pages_in_use}
 use Rattle.like_live.specs.Driver.{DriverTurns, DriverView, IsSameDriver, TakesLast, TakesSnapshot}
 use Rattle.like_live.specs.History.{Does, Told, come_back, glance, like, likes_told, look, retire, take_found, turn}
 use Rattle.like_live.specs.Lasts.{AreLastsAt, TellsLast, users_of}
-use Rattle.like_live.specs.LikeRow.{RowCase, row_calls}
-use Rattle.like_live.specs.LiveView.{IsSameSeat, LiveView}
-use Rattle.like_shared.specs.declared.deed.DriverDeed.{DriverDeed}
-use Rattle.like_shared.specs.declared.deed.DriverDeed.TheVariants as driver
-use Rattle.like_shared.specs.declared.deed.SeatDeed.{SeatDeed}
-use Rattle.like_shared.specs.declared.deed.SeatDeed.TheVariants as deed
+use Rattle.like_live.specs.{LikeRow.RowCase, LikeRow.row_calls, LiveView.IsSameSeat, LiveView.LiveView}
+use Rattle.like_shared.specs.declared.deed.DriverDeed.{DriverDeed, DriverDeed as driver}
+use Rattle.like_shared.specs.declared.deed.SeatDeed.{SeatDeed, SeatDeed as deed}
 
 -- the calls of a history that a deed is: one; those of a row; or none if it only tells last likes
 abbrev pub calls_of : SeatDeed → List Told

@@ -1,12 +1,10 @@
 -- The desk of a shared service, at which clients are made and parked.
 use Rattle.std.specs.Prelude.{◌≡◌, ◌+◌, ◌-◌, ◌++◌, [], ◌∷◌}
-use Rattle.told_lock.specs.Deeds.{named}
-use Rattle.told_lock.specs.Rights.{name_of, seen_of, seens_of, told_of}
-use Rattle.like_shared.specs.declared.desk.DeskDeed.{DeskDeed}
-use Rattle.like_shared.specs.declared.desk.DeskDeed.TheVariants.{Made, Parked}
-use Rattle.like_shared.specs.declared.service.ServiceKeeper.{ServiceKeeper}
-use Rattle.like_shared.specs.declared.service.SharedService.{SharedService}
-use Rattle.like_shared.specs.Shared.{IsClient, IsServiceKeeper, clients_out, driver_log, seats_seen, seats_told, with_logs, with_seen}
+use Rattle.told_lock.specs.{Deeds.named, Rights.name_of, Rights.seen_of, Rights.seens_of, Rights.told_of}
+use Rattle.like_shared.specs.Shared.{IsClient, IsServiceKeeper, clients_out, driver_log, seats_seen, seats_told}
+use Rattle.like_shared.specs.Shared.{with_logs, with_seen}
+use Rattle.like_shared.specs.declared.desk.DeskDeed.{DeskDeed, TheVariants.Made, TheVariants.Parked}
+use Rattle.like_shared.specs.declared.service.{ServiceKeeper.ServiceKeeper, SharedService.SharedService}
 
 -- what the keeper of a service knows after a deed at its desk: how many clients are out, what it knew, and the log of the
 -- client that was parked, with what that has seen

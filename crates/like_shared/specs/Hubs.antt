@@ -1,18 +1,12 @@
 -- What a hub's calls do at its desk, and its end.
 use Rattle.std.specs.Prelude.{ℕ, List, [], ◌∷◌, Result, Ok, Err, ⊤}
 use Rattle.told_lock.specs.Deeds.{HasRun, Leads, Named}
-use Rattle.told_lock.specs.Rights.{IsHolding, first_of}
-use Rattle.told_lock.specs.declared.pass.Pass.{Pass}
-use Rattle.like_shared.specs.declared.desk.DeskDeed.{DeskDeed}
-use Rattle.like_shared.specs.declared.desk.DeskDeed.TheVariants.{Made}
-use Rattle.like_shared.specs.declared.hub.Hub.{Hub}
-use Rattle.like_shared.specs.declared.hub.HubNotClosed.{HubNotClosed}
-use Rattle.like_shared.specs.declared.hub.HubNotClosed.TheVariants.{DeskTaken, Open}
-use Rattle.like_shared.specs.declared.service.NotClosed.{NotClosed}
-use Rattle.like_shared.specs.declared.service.ServiceKeeper.{ServiceKeeper}
+use Rattle.told_lock.specs.{Rights.IsHolding, Rights.first_of, declared.pass.Pass.Pass}
 use Rattle.like_shared.specs.Closed.{IsClosedShared, IsNotClosed}
-use Rattle.like_shared.specs.Desk.{DeskDoes}
-use Rattle.like_shared.specs.Shared.{IsServiceKeeper}
+use Rattle.like_shared.specs.declared.desk.DeskDeed.{DeskDeed, TheVariants.Made}
+use Rattle.like_shared.specs.declared.hub.HubNotClosed.{HubNotClosed, TheVariants.DeskTaken, TheVariants.Open}
+use Rattle.like_shared.specs.declared.service.{NotClosed.NotClosed, ServiceKeeper.ServiceKeeper}
+use Rattle.like_shared.specs.{Desk.DeskDoes, Shared.IsServiceKeeper, declared.hub.Hub.Hub}
 
 -- a card is at the desk, and has the keeper
 abbrev pub IsAtDesk : Hub → Pass ServiceKeeper DeskDeed → Type 0

@@ -1,12 +1,9 @@
 -- A client's passes of seats.
 use Rattle.std.specs.Prelude.{List, MatchBool}
 use Rattle.told_lock.specs.Rights.{IsHolding, IsIdle, log_of, seen_of}
-use Rattle.told_lock.specs.declared.lock.Lock.{Lock}
-use Rattle.told_lock.specs.Deeds.{Named}
+use Rattle.told_lock.specs.{Deeds.Named, declared.lock.Lock.Lock}
 use Rattle.like_live.specs.LiveView.{LiveView}
-use Rattle.like_shared.specs.declared.deed.SeatDeed.{SeatDeed}
-use Rattle.like_shared.specs.declared.deed.SeatDeeds.{SeatDeeds}
-use Rattle.like_shared.specs.declared.seat_call.SeatPass.{SeatPass}
+use Rattle.like_shared.specs.declared.{deed.SeatDeed.SeatDeed, deed.SeatDeeds.SeatDeeds, seat_call.SeatPass.SeatPass}
 
 -- a pass of this lock: it holds the seat, and has told all that was done, or it doesn't hold it
 abbrev pub IsReady : Lock LiveView SeatDeed SeatDeeds → SeatPass → Type 0

@@ -1,18 +1,8 @@
 -- The deeds of rows of calls, and of rows of likes.
-use Rattle.std.specs.Prelude.{◌≡◌, ◌≢◌, ℕ, ◌+◌, ◌<◌, ◌≤◌, List, [], ◌∷◌, flat_map, length, slice_get, take, Result, Ok, Err, Some}
-use Rattle.std.specs.List.{zip}
-use Rattle.like_live.specs.declared.answer.LikeAnswer.TheVariants.{Liked}
-use Rattle.like_live.specs.declared.answer.TurnAnswer.TheVariants.{Runs}
-use Rattle.like_live.specs.declared.call.Answer.{Answer}
-use Rattle.like_live.specs.declared.call.Answer.TheVariants as answer
-use Rattle.like_live.specs.declared.call.Call.{Call}
-use Rattle.like_live.specs.declared.call.Call.TheVariants as call
-use Rattle.like_live.specs.declared.like_pair.LikePair.{LikePair}
-use Rattle.like_live.specs.declared.like_pair.RowAnswer.{RowAnswer}
-use Rattle.like_live.specs.Batch.{IsPutOff}
-use Rattle.like_live.specs.LikeRow.{turn_of}
-use Rattle.like_shared.specs.declared.deed.SeatDeed.{SeatDeed}
-use Rattle.like_shared.specs.declared.deed.SeatDeed.TheVariants as deed
+use Rattle.std.specs.Prelude.{◌≡◌, ◌≢◌, ℕ, ◌+◌, ◌<◌, ◌≤◌, List, [], ◌∷◌, flat_map, length, slice_get, take, Result, Ok, Err, Some, zip}
+use Rattle.like_live.specs.Types.{Answer, Answer as answer, Call, Call as call, LikePair, Liked, RowAnswer}
+use Rattle.like_live.specs.{Batch.IsPutOff, LikeRow.turn_of, declared.answer.TurnAnswer.TheVariants.Runs}
+use Rattle.like_shared.specs.declared.deed.SeatDeed.{SeatDeed, SeatDeed as deed}
 
 -- the deed of a row's call with its answer; with one to another call there is none
 abbrev pub deeds_of_call : Call → Answer → List SeatDeed

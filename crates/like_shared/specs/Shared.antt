@@ -3,18 +3,11 @@ use Rattle.std.specs.Prelude.{◌≡◌, ℕ, ◌≤◌, All, Bool, false, IfErr
 use Rattle.std.specs.List.{AllZip}
 use Rattle.told_lock.specs.Deeds.{Continues, Named, named}
 use Rattle.told_lock.specs.Rights.{IsIdle, IsKeeper, SeesNext, first_of, log_of, name_of, seens_of, told_of}
-use Rattle.like_live.specs.Driver.{DriverView}
-use Rattle.like_live.specs.LiveView.{LiveView}
-use Rattle.like_live.specs.Service.{AreItsSeats}
-use Rattle.like_shared.specs.declared.client.Client.{Client}
-use Rattle.like_shared.specs.declared.deed.DriverDeed.{DriverDeed}
-use Rattle.like_shared.specs.declared.deed.SeatDeed.{SeatDeed}
-use Rattle.like_shared.specs.declared.seat_call.Busy.{Busy}
-use Rattle.like_shared.specs.declared.seat_call.SeatPass.{SeatPass}
-use Rattle.like_shared.specs.declared.service.ServiceKeeper.{ServiceKeeper}
-use Rattle.like_shared.specs.declared.service.SharedService.{SharedService}
-use Rattle.like_shared.specs.Deeds.{pages_at}
-use Rattle.like_shared.specs.Passes.{IsReady, log_at, seen_at}
+use Rattle.like_live.specs.{Driver.DriverView, LiveView.LiveView, Service.AreItsSeats}
+use Rattle.like_shared.specs.declared.{client.Client.Client, deed.DriverDeed.DriverDeed, deed.SeatDeed.SeatDeed}
+use Rattle.like_shared.specs.declared.{seat_call.Busy.Busy, seat_call.SeatPass.SeatPass}
+use Rattle.like_shared.specs.declared.{service.ServiceKeeper.ServiceKeeper, service.SharedService.SharedService}
+use Rattle.like_shared.specs.{Deeds.pages_at, Passes.IsReady, Passes.log_at, Passes.seen_at}
 
 -- the driver and the seats with which it was opened
 abbrev pub first_driver : SharedService → DriverView

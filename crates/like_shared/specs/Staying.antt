@@ -1,12 +1,10 @@
 -- What stays along all calls of a service.
 use Rattle.std.specs.Prelude.{ℕ, ◌+◌, ◌<◌, All, Contains, List, length, slice_index, Some, true}
+use Rattle.like_core.specs.Types.{PageCount}
 use Rattle.told_lock.specs.Deeds.{HasRun}
-use Rattle.like_core.specs.declared.view.PageCount.{PageCount}
-use Rattle.like_live.specs.Driver.{DriverView, IsSameDriver}
-use Rattle.like_live.specs.LiveView.{IsSameSeat, LiveView}
-use Rattle.like_shared.specs.declared.deed.DriverDeed.{DriverDeed}
-use Rattle.like_shared.specs.declared.deed.DriverDeed.TheVariants.{LastCounts, Snapshot}
+use Rattle.like_live.specs.{Driver.DriverView, Driver.IsSameDriver, LiveView.IsSameSeat, LiveView.LiveView}
 use Rattle.like_shared.specs.Deeds.{DriverDoes}
+use Rattle.like_shared.specs.declared.deed.DriverDeed.{DriverDeed, TheVariants.LastCounts, TheVariants.Snapshot}
 
 -- the counts that a driver has read
 abbrev pub counted : DriverView → List PageCount

@@ -2,23 +2,16 @@
 use Rattle.std.specs.Prelude.{◌≡◌, ℕ, ◌+◌, ◌<◌, nat_lt, All, List, ◌∷◌, ◌++◌, filter, flat_map, length, map, slice_index, sum_by, Ok, Option, Some, true, ⊤}
 use Rattle.std.specs.List.{AllZip, last_or}
 use Rattle.told_lock.specs.Deeds.{Leads, Named, deeds_in}
-use Rattle.like_tables.specs.LastLike.{page_or_none}
-use Rattle.like_tables.specs.UserTable.{last_of}
-use Rattle.like_live.specs.declared.opening.Opening.{Opening}
-use Rattle.like_live.specs.Deeds.{Deed}
-use Rattle.like_live.specs.Driver.{DriverView}
-use Rattle.like_live.specs.History.{Told, pages_liked}
-use Rattle.like_live.specs.Lasts.{user_at}
-use Rattle.like_live.specs.LiveView.{LiveView}
+use Rattle.like_tables.specs.{LastLike.page_or_none, UserTable.last_of}
 use Rattle.like_live.specs.Service.{AreGone, AreOpened, IsClosedService}
 use Rattle.like_live.specs.StrictService.{HasLastCounts, HasLastLikes, IsStrictService, SeatHistory, opened}
+use Rattle.like_live.specs.{DeedStore.store_after, History.Told, History.pages_liked, LiveView.LiveView}
+use Rattle.like_live.specs.{Deeds.Deed, Driver.DriverView, Lasts.user_at, Types.Opening}
 use Rattle.like_live.specs.StrictService as strict
-use Rattle.like_live.specs.DeedStore.{store_after}
-use Rattle.like_shared.specs.declared.deed.DriverDeed.{DriverDeed}
-use Rattle.like_shared.specs.declared.deed.DriverDeed.TheVariants.{LastCounts, Snapshot}
-use Rattle.like_shared.specs.declared.deed.SeatDeed.{SeatDeed}
-use Rattle.like_shared.specs.declared.deed.SeatDeed.TheVariants.{Last, Lasts}
 use Rattle.like_shared.specs.Deeds.{DriverDoes, SeatDoes, calls_of, liked_by}
+use Rattle.like_shared.specs.declared.deed.DriverDeed.TheVariants.{LastCounts, Snapshot}
+use Rattle.like_shared.specs.declared.deed.SeatDeed.TheVariants.{Last, Lasts}
+use Rattle.like_shared.specs.declared.deed.{DriverDeed.DriverDeed, SeatDeed.SeatDeed}
 
 -- a seat of a shared service, from its opening to its end: what all clients told of it led from the one to the other, in
 -- an order that continues what each of them has seen

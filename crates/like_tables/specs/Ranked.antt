@@ -1,7 +1,6 @@
 -- A user that a worker serves, with its rank among the worker's users.
 use Rattle.std.specs.Prelude.{◌≡◌, ℕ, true, if◌then◌else◌, Option, Some, None}
-use Rattle.like_tables.specs.declared.ranked.Ranked.{Ranked}
-use Rattle.like_tables.specs.Share.{Share, owned_below, owns}
+use Rattle.like_tables.specs.{Share.Share, Share.owned_below, Share.owns, declared.ranked.Ranked.Ranked}
 
 -- the user with its rank: how many of the share's users are below it
 abbrev pub ranked_at : Share → ℕ → Ranked

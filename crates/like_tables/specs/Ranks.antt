@@ -1,9 +1,8 @@
 -- How a table of users is kept: a last like for each user of the share, by rank.
 use Rattle.std.specs.Prelude.{◌≡◌, ◌+◌, ◌<◌, ℕ, true, false, if◌then◌else◌, List, length, map, slice_index, slice_index_or, Option, None}
 use Rattle.std.specs.List.{range_with_len}
-use Rattle.like_tables.specs.LastLike.{page_or_none}
-use Rattle.like_tables.specs.Share.{IsShare, Share, owned_below, owns}
 use Rattle.like_tables.specs.UserTable.{UserTable, last_in, last_of}
+use Rattle.like_tables.specs.{LastLike.page_or_none, Share.IsShare, Share.Share, Share.owned_below, Share.owns}
 
 -- there are as many last likes as users of the share
 pub record HoldsUsers (share : Share) (pages : List (Option ℕ)) : Type 0 where

@@ -2,8 +2,7 @@
 use Rattle.std.specs.Prelude.{◌≡◌, ℕ, ◌*◌, ◌^◌, ◌<◌, ◌≤◌, ◌==◌, if◌then◌else◌, Bool, List, length, map, slice_index, Option, Some, None}
 use Rattle.std.specs.List.{range_with_len}
 use Rattle.like_limits.specs.Buckets.{bucket, buckets}
-use Rattle.like_tables.specs.PageSet.{bit_of}
-use Rattle.like_tables.specs.SplitPages.{SplitPages}
+use Rattle.like_tables.specs.{PageSet.bit_of, SplitPages.SplitPages}
 
 -- whether a bucket's number is a page that belongs there
 abbrev pub is_taken : ℕ → List ℕ → ℕ → Bool

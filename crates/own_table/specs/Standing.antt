@@ -1,9 +1,9 @@
 -- A table that one thread owns, between its steps.
 use Rattle.std.specs.Prelude.{◌≡◌, ℕ, ◌<◌, ◌^◌, List, [], ⊤, slice_index}
-use mathlib.Core.Option.{some}
-use lib.ListN.{get_elem?}
 use Rattle.atomic_table.specs.Table.{Allows, Me, State}
-use base.Fml.{Fml, ftrue, fex}
+use base.Fml.{Fml, fex, ftrue}
+use lib.ListN.{get_elem?}
+use mathlib.Core.Option.{some}
 
 -- a table without slots that has these words and these views
 abbrev pub state : {S V : Type 0} → List ℕ → List V → State S V

@@ -1,10 +1,7 @@
 -- What the tests know of a worker that they play with, which has one submitter at most.
 use Rattle.std.specs.Prelude.{◌≡◌, ℕ, ◌+◌, ◌≤◌, ◌==◌, List, length, count_by, All, slice_get, slice_index, Some, None}
-use Rattle.like_requests.specs.declared.request.Request.{Request}
-use Rattle.like_requests.specs.declared.request.Taken.{Taken}
-use Rattle.like_requests.specs.declared.request.Taken.TheVariants.{Ask, End, Nothing}
 use Rattle.like_limits.specs.Limits.{max_requests}
-use Rattle.like_requests.specs.Setup.{IsThere}
+use Rattle.like_requests.specs.{Setup.IsThere, Types.Ask, Types.End, Types.Nothing, Types.Request, Types.Taken}
 use Rattle.like_core.specs.Post.{pages_of}
 use Rattle.like_roles.specs.worker.WorkerView.{WorkerView, submitter_at}
 

@@ -1,19 +1,12 @@
 -- What the tests know of a board and of those at it.
 use Rattle.std.specs.Prelude.{◌≡◌, ℕ, ◌+◌, ◌^◌, ◌<◌, ◌≤◌, Bool, true, List, length, Option, None, Some, IsSome}
 use Rattle.like_limits.specs.Limits.{hot_pages}
-use Rattle.like_core.specs.declared.limits.Limits.{Limits}
-use Rattle.like_core.specs.declared.sight.CoordSight.{CoordSight}
-use Rattle.like_core.specs.declared.view.CoordSeatView.{CoordSeatView}
-use Rattle.like_core.specs.Additions.{added_to, all_added}
-use Rattle.like_core.specs.Phase.{is_hot, is_marked}
-use Rattle.like_core.specs.PhaseMasks.{mask_of, HasMask}
-use Rattle.like_core.specs.Post.{KnowsSplit, is_split_at, pages_of}
-use Rattle.like_core.specs.WorkerState.{IsRunning}
-use Rattle.like_core.specs.PageSteps.{additions_among}
-use Rattle.like_board.specs.declared.coord_seat.CoordSeat.{CoordSeat}
-use Rattle.like_board.specs.declared.worker_seat.WorkerSeat.{WorkerSeat}
-use Rattle.like_board.specs.Seats.{BoardId, AreFresh, board_numbers, coord_board, coord_view, seat_board}
-use Rattle.like_core.specs.declared.view.WorkerSeatView.{WorkerSeatView}
+use Rattle.like_core.specs.PhaseMasks.{HasMask, mask_of}
+use Rattle.like_core.specs.Types.{CoordSeatView, CoordSight, Limits, WorkerSeatView}
+use Rattle.like_core.specs.{Additions.added_to, Additions.all_added, PageSteps.additions_among, Phase.is_hot}
+use Rattle.like_core.specs.{Phase.is_marked, Post.KnowsSplit, Post.is_split_at, Post.pages_of, WorkerState.IsRunning}
+use Rattle.like_board.specs.Seats.{AreFresh, BoardId, board_numbers, coord_board, coord_view, seat_board}
+use Rattle.like_board.specs.declared.{coord_seat.CoordSeat.CoordSeat, worker_seat.WorkerSeat.WorkerSeat}
 use Rattle.test_parts.specs.declared.known.Known.{Known}
 
 -- the seats of a board of this many pages, whose first is marked or is not, within these limits, which give it no

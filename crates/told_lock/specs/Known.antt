@@ -1,9 +1,8 @@
 -- What passes and the keeper know, and what a step makes of it.
 use Rattle.std.specs.Prelude.{◌≡◌, ℕ, ◌+◌, ◌-◌, List, [], ◌∷◌, ◌++◌, None, Some, ⊤}
 use Rattle.atomic_table.specs.Table.{Me}
-use Rattle.told_lock.specs.declared.known.Known.{Known}
-use Rattle.told_lock.specs.declared.known.Known.TheVariants.{Back, Keeper, Pass}
 use Rattle.told_lock.specs.Deeds.{ContinuesWithout, HasRun, Named, deeds_by, deeds_in, named}
+use Rattle.told_lock.specs.declared.known.Known.{Known, TheVariants.Back, TheVariants.Keeper, TheVariants.Pass}
 
 -- a pass's name, and the order of deeds up to its last step
 abbrev pub name_in : {T C : Type 0} → Known T C → ℕ

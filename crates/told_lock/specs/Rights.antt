@@ -1,11 +1,9 @@
 -- Who may do what at a lock.
 use Rattle.std.specs.Prelude.{◌≡◌, ℕ, List, [], ◌∷◌, ◌++◌, None, Some}
-use Rattle.told_lock.specs.declared.keeper.Keeper.{Keeper}
-use Rattle.told_lock.specs.declared.known.Known.TheVariants.{Keeper as Keeps, Pass as Out}
-use Rattle.told_lock.specs.declared.lock.Lock.{Lock}
-use Rattle.told_lock.specs.declared.pass.Pass.{Pass}
 use Rattle.told_lock.specs.Deeds.{Named, deeds_by, named}
 use Rattle.told_lock.specs.Known.{made_in, name_in, seen_back, seen_in, told_in}
+use Rattle.told_lock.specs.declared.known.Known.TheVariants.{Keeper as Keeps, Pass as Out}
+use Rattle.told_lock.specs.declared.{keeper.Keeper.Keeper, lock.Lock.Lock, pass.Pass.Pass}
 
 -- the value that the lock was made with
 abbrev pub first_of : {T C : Type 0} {D : _} → Lock T C D → T

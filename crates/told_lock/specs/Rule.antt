@@ -1,11 +1,10 @@
 -- The rule of a lock, which each step keeps.
 use Rattle.std.specs.Prelude.{◌≡◌, ◌≢◌, ℕ, ◌+◌, ◌<◌, ◌==◌, if◌then◌else◌, All, List, [], length, slice_index, slice_index_or, sum_by, Option, None, Some}
-use mathlib.Core.Option.{some}
-use lib.ListN.{get_elem?}
 use Rattle.atomic_table.specs.Table.{State}
-use Rattle.told_lock.specs.declared.known.Known.{Known}
-use Rattle.told_lock.specs.declared.known.Known.TheVariants.{Back, Keeper, Pass}
+use lib.ListN.{get_elem?}
+use mathlib.Core.Option.{some}
 use Rattle.told_lock.specs.Deeds.{Continues, ContinuesWithout, HasRun, Named, deeds_by, deeds_in}
+use Rattle.told_lock.specs.declared.known.Known.{Known, TheVariants.Back, TheVariants.Keeper, TheVariants.Pass}
 
 -- the place of the word that says whether somebody has the lock
 abbrev pub lock_word : ℕ

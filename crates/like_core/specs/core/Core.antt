@@ -1,13 +1,8 @@
 -- The core that is stepped, and the states for which it stands.
 use Rattle.std.specs.Prelude.{◌≡◌, List, fold}
-use Rattle.like_core.specs.declared.event.Event.{Event}
-use Rattle.like_core.specs.declared.pure_core.Core.{Core}
-use Rattle.like_core.specs.declared.opening.Opening.{Opening}
-use Rattle.like_core.specs.core.Numbers.{Numbers}
-use Rattle.like_core.specs.core.Kept.{kept}
-use Rattle.like_core.specs.core.State.{CoreState, start, after, numbers}
-use Rattle.like_core.specs.core.Reachable.{Reachable}
-use Rattle.like_core.specs.core.Exclusive.{IsExclusive, IsInPhase}
+use Rattle.like_core.specs.{Types.Event, Types.Opening, core.Exclusive.IsExclusive, core.Exclusive.IsInPhase}
+use Rattle.like_core.specs.{core.Kept.kept, core.Numbers.Numbers, core.Reachable.Reachable, core.State.CoreState}
+use Rattle.like_core.specs.{core.State.after, core.State.numbers, core.State.start, declared.pure_core.Core.Core}
 
 -- the numbers that a core keeps
 abbrev pub numbers_of : Core → Numbers

@@ -1,9 +1,7 @@
 -- Exclusion: while a worker runs a joined phase, nobody has unmerged likes.
 use Rattle.std.specs.Prelude.{◌≡◌, ℕ, ◌+◌, ◌<◌, ◌≤◌, ◌⊎◌, true, []}
-use Rattle.like_core.specs.declared.worker_state.WorkerState.TheVariants.{Runs, Answered, Gone}
-use Rattle.like_core.specs.declared.opening.Opening.{Opening}
-use Rattle.like_core.specs.Phase.{IsJoined, IsSplit}
-use Rattle.like_core.specs.core.State.{CoreState}
+use Rattle.like_core.specs.Types.{Answered, Gone, Opening, Runs}
+use Rattle.like_core.specs.{Phase.IsJoined, Phase.IsSplit, core.State.CoreState}
 
 -- no worker has unmerged likes
 abbrev pub NoneUnmerged : CoreState → Type 0

@@ -1,10 +1,6 @@
 -- The lists that a core keeps, as the numbers of the table of events.
 use Rattle.std.specs.Prelude.{◌≡◌, ℕ, ◌<◌, Bool, List, [], length, slice_index, slice_index_or}
-use Rattle.like_core.specs.declared.worker_state.WorkerState.{WorkerState}
-use Rattle.like_core.specs.declared.worker_state.WorkerState.TheVariants.{Gone}
-use Rattle.like_core.specs.declared.limits.Limits.{Limits}
-use Rattle.like_core.specs.core.Numbers.{Numbers}
-use Rattle.like_core.specs.Phase.{is_marked}
+use Rattle.like_core.specs.{Phase.is_marked, Types.Gone, Types.Limits, Types.WorkerState, core.Numbers.Numbers}
 
 -- each row has this many numbers
 abbrev pub AreRowsOf : ℕ → List (List ℕ) → Type 0

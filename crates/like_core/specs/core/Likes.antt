@@ -1,14 +1,9 @@
 -- States with the likes that slices hold, and that events reach these too.
 use Rattle.std.specs.Prelude.{◌≡◌, ℕ, ◌<◌, true, List, ◌++◌, length}
-use Rattle.like_core.specs.declared.worker_state.WorkerState.TheVariants.{Runs}
-use Rattle.like_core.specs.declared.opening.Opening.{Opening}
 use Rattle.like_limits.specs.Limits.{total_bound}
-use Rattle.like_core.specs.Functions.{times}
-use Rattle.like_core.specs.Phase.{IsJoined}
-use Rattle.like_core.specs.core.Numbers.{total}
 use Rattle.like_core.specs.core.State.{CoreState, is_split_now, numbers}
-use Rattle.like_core.specs.core.Exclusive.{NoneUnmerged}
-use Rattle.like_core.specs.core.Reachable.{Reachable}
+use Rattle.like_core.specs.{Functions.times, Phase.IsJoined, core.Numbers.total, core.Reachable.Reachable}
+use Rattle.like_core.specs.{Types.Opening, Types.Runs, core.Exclusive.NoneUnmerged}
 
 -- each worker has more unmerged likes, of these pages
 abbrev pub given : CoreState → (ℕ → List ℕ) → CoreState

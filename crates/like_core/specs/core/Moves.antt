@@ -1,20 +1,11 @@
 -- The moves of a board: the events, and what only a service's workers do: one that was gone comes back, and one glances
 -- at the count of a page that is split. These are no events.
 use Rattle.std.specs.Prelude.{◌≡◌, ◌≢◌, ℕ, ◌<◌, true, false, List, [], ◌∷◌, fold, length}
-use Rattle.like_core.specs.declared.worker_state.WorkerState.TheVariants.{Runs, Gone}
-use Rattle.like_core.specs.declared.event.Event.{Event}
-use Rattle.like_core.specs.declared.event.Event.TheVariants.{Release}
-use Rattle.like_core.specs.declared.limits.Limits.{Limits}
-use Rattle.like_core.specs.declared.opening.Opening.{Opening}
-use Rattle.like_core.specs.declared.shown.Shown.{Shown}
-use Rattle.like_core.specs.declared.shown.Shown.TheVariants.{Seen, Count}
-use Rattle.like_core.specs.Functions.{MayAll, update}
-use Rattle.like_core.specs.WorkerState.{running_sight}
-use Rattle.like_core.specs.word.Forms.{form_of}
-use Rattle.like_core.specs.core.Numbers.{AllIn}
-use Rattle.like_core.specs.core.Table.{Permits, IsShown}
-use Rattle.like_core.specs.core.State.{CoreState, start, after, is_split_now, numbers}
-use Rattle.like_core.specs.core.Reachable.{Reachable}
+use Rattle.like_core.specs.Types.{Event, Gone, Limits, Opening, Release, Runs, Seen, Shown}
+use Rattle.like_core.specs.core.State.{CoreState, after, is_split_now, numbers, start}
+use Rattle.like_core.specs.core.Table.{IsShown, Permits}
+use Rattle.like_core.specs.{Functions.MayAll, Functions.update, WorkerState.running_sight, core.Numbers.AllIn}
+use Rattle.like_core.specs.{core.Reachable.Reachable, declared.shown.Shown.TheVariants.Count, word.Forms.form_of}
 
 -- an event, or this worker comes back, or it glances at this page
 pub data Move : Type 0 where

@@ -1,14 +1,8 @@
 -- The numbers of which the table of events speaks.
 use Rattle.std.specs.Prelude.{◌≡◌, ℕ, ◌+◌, ◌<◌, ◌↔◌, Bool, IsTrue}
-use Rattle.like_core.specs.declared.worker_state.WorkerState.{WorkerState}
-use Rattle.like_core.specs.declared.worker_state.WorkerState.TheVariants.{Answered, Gone}
-use Rattle.like_core.specs.declared.sight.Sight.{Sight}
-use Rattle.like_core.specs.declared.sight.CoordSight.{CoordSight}
-use Rattle.like_core.specs.declared.limits.Limits.{Limits}
 use Rattle.like_limits.specs.Limits.{total_bound}
-use Rattle.like_core.specs.Functions.{sum_below, update}
-use Rattle.like_core.specs.Phase.{split_by}
-use Rattle.like_core.specs.WorkerState.{IsIn, looked}
+use Rattle.like_core.specs.Types.{Answered, CoordSight, Gone, Limits, Sight, WorkerState}
+use Rattle.like_core.specs.{Functions.sum_below, Functions.update, Phase.split_by, WorkerState.IsIn, WorkerState.looked}
 
 -- what the table of events speaks of
 pub record Numbers : Type 0 where

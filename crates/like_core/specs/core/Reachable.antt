@@ -1,10 +1,7 @@
 -- The states of the core that events reach.
 use Rattle.std.specs.Prelude.{◌≡◌, List, fold}
-use Rattle.like_core.specs.declared.event.Event.{Event}
-use Rattle.like_core.specs.declared.opening.Opening.{Opening}
-use Rattle.like_core.specs.Functions.{MayAll}
-use Rattle.like_core.specs.core.Table.{Permits}
-use Rattle.like_core.specs.core.State.{CoreState, start, after, numbers}
+use Rattle.like_core.specs.core.State.{CoreState, after, numbers, start}
+use Rattle.like_core.specs.{Functions.MayAll, Types.Event, Types.Opening, core.Table.Permits}
 
 -- each event of the list may happen after those before it
 abbrev pub PermitsAll : Opening → CoreState → List Event → Type 0

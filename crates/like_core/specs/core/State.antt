@@ -1,17 +1,11 @@
 -- A state of the core: it has lists where the table of events has numbers.
 use Rattle.std.specs.Prelude.{ℕ, ◌+◌, ◌==◌, nat_lt, Bool, true, false, not, ◌&&◌, if◌then◌else◌, List, [], ◌∷◌, ◌++◌, length, filter, count_by, replicate, slice_index}
-use Rattle.like_core.specs.declared.worker_state.WorkerState.{WorkerState}
-use Rattle.like_core.specs.declared.worker_state.WorkerState.TheVariants.{Runs, Answered, Gone}
-use Rattle.like_core.specs.declared.event.Event.{Event}
-use Rattle.like_core.specs.declared.event.Event.TheVariants.{Look, Acknowledge, Report, Retire, Like, Read, Merge, Hot, CoordLook, CoordRead, Announce, Release}
-use Rattle.like_core.specs.declared.opening.Opening.{Opening}
-use Rattle.like_core.specs.declared.limits.Limits.{Limits}
 use Rattle.like_limits.specs.Buckets.{run_factor}
-use Rattle.like_core.specs.Functions.{update, times}
-use Rattle.like_core.specs.Phase.{is_marked, split_by}
-use Rattle.like_core.specs.OpeningLimits.{run_limits}
-use Rattle.like_core.specs.WorkerState.{looked}
-use Rattle.like_core.specs.core.Numbers.{Numbers}
+use Rattle.like_core.specs.Types.{Answered, CoordLook, Event, Gone, Limits, Look, Opening, Release, Runs, WorkerState}
+use Rattle.like_core.specs.declared.event.Event.TheVariants.{Acknowledge, Announce, CoordRead, Hot, Like, Merge, Read}
+use Rattle.like_core.specs.declared.event.Event.TheVariants.{Report, Retire}
+use Rattle.like_core.specs.{Functions.times, Functions.update, WorkerState.looked, core.Numbers.Numbers}
+use Rattle.like_core.specs.{OpeningLimits.run_limits, Phase.is_marked, Phase.split_by}
 
 -- who ran a like, and in which phase
 pub record Label : Type 0 where

@@ -1,19 +1,15 @@
 -- The table of events: when each may happen, what it shows, and the numbers after it.
 use Rattle.std.specs.Prelude.{List, fold, take, slice_get, Some, ◌≡◌, ◌≢◌, ℕ, ◌+◌, ◌^◌, ◌<◌, true, false, if◌then◌else◌}
-use Rattle.like_core.specs.declared.worker_state.WorkerState.TheVariants.{Runs, Answered, Gone}
-use Rattle.like_core.specs.declared.sight.Sight.{Sight}
-use Rattle.like_core.specs.declared.sight.CoordSight.{CoordSight}
-use Rattle.like_core.specs.declared.event.Event.{Event}
-use Rattle.like_core.specs.declared.event.Event.TheVariants.{Look, Acknowledge, Report, Retire, Like, Read, Merge, Hot, CoordLook, CoordRead, Announce, Release}
-use Rattle.like_core.specs.declared.shown.Shown.{Shown}
-use Rattle.like_core.specs.declared.shown.Shown.TheVariants.{Seen, Coord, Done, Sliced, Old, Count, Hot as HotShown}
-use Rattle.like_core.specs.declared.pure_core.refusal.NotNow.{NotNow}
-use Rattle.like_core.specs.declared.pure_core.refusal.Wrong.{Wrong}
-use Rattle.like_core.specs.declared.pure_core.refusal.NotNow.TheVariants.{NoSuch, Phase, Last, Full}
 use Rattle.like_limits.specs.Limits.{total_bound}
-use Rattle.like_core.specs.Functions.{MayAll}
-use Rattle.like_core.specs.Phase.{IsJoined, IsSplit}
-use Rattle.like_core.specs.core.Numbers.{Numbers, with_state, with_unmerged, splits, total, AllIn, Sees, CoordSees, with_look, with_like, with_more}
+use Rattle.like_core.specs.Types.{Answered, CoordLook, CoordSight, Event, Gone, Look, Release, Runs, Seen, Shown, Sight}
+use Rattle.like_core.specs.core.Numbers.{AllIn, CoordSees, Numbers, Sees, splits, total, with_like, with_look}
+use Rattle.like_core.specs.core.Numbers.{with_more, with_state, with_unmerged}
+use Rattle.like_core.specs.declared.event.Event.TheVariants.{Acknowledge, Announce, CoordRead, Hot, Like, Merge, Read}
+use Rattle.like_core.specs.declared.event.Event.TheVariants.{Report, Retire}
+use Rattle.like_core.specs.declared.pure_core.refusal.NotNow.TheVariants.{Full, Last, NoSuch, Phase}
+use Rattle.like_core.specs.declared.pure_core.refusal.{NotNow.NotNow, Wrong.Wrong}
+use Rattle.like_core.specs.declared.shown.Shown.TheVariants.{Coord, Count, Done, Hot as HotShown, Old, Sliced}
+use Rattle.like_core.specs.{Functions.MayAll, Phase.IsJoined, Phase.IsSplit}
 
 -- the worker and the page that the event names exist, and so does the page of each bit of its mask
 abbrev pub NamesWhatIsThere : Numbers → Event → Type 0

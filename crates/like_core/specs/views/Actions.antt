@@ -1,20 +1,14 @@
 -- What each call at a board does: it takes a seat's view to the next, and is one move, or some likes and their merge.
 -- Looks, returns and steps at pages come last in the log.
 use Rattle.std.specs.Prelude.{ℕ, []}
-use Rattle.like_core.specs.declared.log.LogEntry.TheVariants.{Saw, Did}
-use Rattle.like_core.specs.declared.sight.Sight.{Sight}
-use Rattle.like_core.specs.declared.sight.CoordSight.{CoordSight}
-use Rattle.like_core.specs.declared.page_step.PageCall.TheVariants.{Add, Read as ReadCall, Glance as GlanceCall}
-use Rattle.like_core.specs.declared.event.Event.TheVariants.{Look, Acknowledge, Report, Retire, Read, Hot, CoordLook, CoordRead, Announce, Release}
-use Rattle.like_core.specs.declared.shown.Shown.TheVariants.{Seen, Done, Old, Count, Hot as HotShown, Coord as CoordShown}
-use Rattle.like_core.specs.declared.view.WorkerSeatView.{WorkerSeatView}
-use Rattle.like_core.specs.declared.view.CoordSeatView.{CoordSeatView}
-use Rattle.like_core.specs.declared.view.View.TheVariants.{Coord, Worker}
-use Rattle.like_core.specs.core.Moves.{comes_back, glances, makes}
-use Rattle.like_core.specs.PageSteps.{page_step}
-use Rattle.like_core.specs.WorkerState.{phase_of, running_sight}
-use Rattle.like_core.specs.views.Views.{likes_merged, adding, mask_released}
-use Rattle.like_core.specs.views.Shows.{IsEntry, IsStep}
+use Rattle.like_core.specs.Types.{Add, Coord, CoordLook, CoordSeatView, CoordSight, Did, Glance as GlanceCall, Look}
+use Rattle.like_core.specs.Types.{Read as ReadCall, Release, Saw, Seen, Sight, Worker, WorkerSeatView}
+use Rattle.like_core.specs.declared.event.Event.TheVariants.{Acknowledge, Announce, CoordRead, Hot, Read, Report}
+use Rattle.like_core.specs.declared.event.Event.TheVariants.{Retire}
+use Rattle.like_core.specs.declared.shown.Shown.TheVariants.{Coord as CoordShown, Count, Done, Hot as HotShown, Old}
+use Rattle.like_core.specs.views.Views.{adding, likes_merged, mask_released}
+use Rattle.like_core.specs.{PageSteps.page_step, WorkerState.phase_of, WorkerState.running_sight, core.Moves.comes_back}
+use Rattle.like_core.specs.{core.Moves.glances, core.Moves.makes, views.Shows.IsEntry, views.Shows.IsStep}
 
 -- the worker looks at the phase word, and sees this
 abbrev pub Looks : WorkerSeatView → Sight → WorkerSeatView → Type 0

@@ -1,20 +1,9 @@
 -- What the numbers of the log tell: an entry's is above all numbers before it; a later log continues an earlier one; and
 -- phases agree with numbers.
-use Rattle.std.specs.Prelude.{◌≡◌, ℕ, ◌<◌, All, Contains, List, ◌++◌}
-use Rattle.std.specs.List.{flat_map}
-use Rattle.like_core.specs.declared.event.Event.{Event}
-use Rattle.like_core.specs.declared.log.LogEntry.{LogEntry}
-use Rattle.like_core.specs.declared.log.Logged.{Logged}
-use Rattle.like_core.specs.declared.opening.Opening.{Opening}
-use Rattle.like_core.specs.declared.shown.Shown.{Shown}
-use Rattle.like_core.specs.declared.view.WorkerSeatView.{WorkerSeatView}
-use Rattle.like_core.specs.declared.view.View.TheVariants.{Worker}
-use Rattle.like_core.specs.Log.{entry_phase, entry_worker}
-use Rattle.like_core.specs.Post.{number_of}
-use Rattle.like_core.specs.core.Moves.{Move}
-use Rattle.like_core.specs.views.PostOrder.{IsOrderOf}
-use Rattle.like_core.specs.views.Posts.{posts_of}
-use Rattle.like_core.specs.views.Shows.{IsEntry}
+use Rattle.std.specs.Prelude.{◌≡◌, ℕ, ◌<◌, All, Contains, List, ◌++◌, flat_map}
+use Rattle.like_core.specs.Types.{Event, LogEntry, Logged, Opening, Shown, Worker, WorkerSeatView}
+use Rattle.like_core.specs.views.{PostOrder.IsOrderOf, Posts.posts_of, Shows.IsEntry}
+use Rattle.like_core.specs.{Log.entry_phase, Log.entry_worker, Post.number_of, core.Moves.Move}
 
 -- all that these seats made, with the numbers that their views tell
 abbrev pub all_logged : List WorkerSeatView → List Logged

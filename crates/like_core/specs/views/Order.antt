@@ -1,25 +1,15 @@
 -- One order of all that workers did at a board, their looks included, for a list of the views of all seats; and that each
 -- step keeps it. It is the board's log, and the place of an entry in it is the entry's number.
-use Rattle.std.specs.Prelude.{◌≡◌, ℕ, ◌+◌, ◌==◌, ◌≤◌, if◌then◌else◌, All, List, [], ◌∷◌, ◌++◌, length, replicate, slice_index, slice_set}
-use Rattle.std.specs.List.{sum_by}
-use mathlib.Core.Option.{some}
+use Rattle.std.specs.Prelude.{◌≡◌, ℕ, ◌+◌, ◌==◌, ◌≤◌, if◌then◌else◌, All, List, [], ◌∷◌, ◌++◌, length, replicate, slice_index, slice_set, sum_by}
 use lib.ListN.{get_elem?}
-use Rattle.like_core.specs.declared.log.LogEntry.{LogEntry}
-use Rattle.like_core.specs.declared.log.LogEntry.TheVariants.{Saw, Did}
-use Rattle.like_core.specs.declared.opening.Opening.{Opening}
-use Rattle.like_core.specs.declared.page_step.PageCall.{PageCall}
-use Rattle.like_core.specs.declared.page_step.PageStep.{PageStep}
-use Rattle.like_core.specs.declared.view.WorkerSeatView.{WorkerSeatView}
-use Rattle.like_core.specs.declared.view.CoordSeatView.{CoordSeatView}
-use Rattle.like_core.specs.declared.view.View.{View}
-use Rattle.like_core.specs.declared.view.View.TheVariants.{Coord, Worker, Spent}
+use mathlib.Core.Option.{some}
 use Rattle.like_core.specs.Log.{PhasesRise, applied_of, logged_by, numbered, steps_in}
 use Rattle.like_core.specs.PageSteps.{AddsSome, AreInTurn, likes_of, page_step, steps_by}
-use Rattle.like_core.specs.Post.{additions_in, fresh, stepped}
-use Rattle.like_core.specs.WorkerState.{phase_of}
+use Rattle.like_core.specs.Types.{Coord, CoordSeatView, Did, LogEntry, Opening, PageCall, PageStep, Saw, Spent, View}
+use Rattle.like_core.specs.Types.{Worker, WorkerSeatView}
 use Rattle.like_core.specs.core.State.{CoreState, label_now, labelled}
-use Rattle.like_core.specs.views.Posts.{posts_of}
 use Rattle.like_core.specs.views.Views.{gathered_coord, made_coord, seats_of}
+use Rattle.like_core.specs.{Post.additions_in, Post.fresh, Post.stepped, WorkerState.phase_of, views.Posts.posts_of}
 
 -- all that a worker's post did at pages are that worker's steps, in their order
 abbrev pub HasDone : List PageStep → WorkerSeatView → Type 0

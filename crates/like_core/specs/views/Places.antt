@@ -1,9 +1,7 @@
 -- The stretches of additions: each has the counts from the one that it found up to, but not including, the one it left.
 -- What is true of them.
 use Rattle.std.specs.Prelude.{◌≡◌, ◌⊎◌, ℕ, ◌+◌, ◌≤◌, ◌==◌, ◌&&◌, nat_le, nat_lt, All, AllPairs, Bool, if◌then◌else◌, List, slice_index}
-use Rattle.like_core.specs.declared.view.Addition.{Addition}
-use Rattle.like_core.specs.declared.view.View.{View}
-use Rattle.like_core.specs.views.Posts.{last_count, posts_of}
+use Rattle.like_core.specs.{Types.Addition, Types.View, views.Posts.last_count, views.Posts.posts_of}
 
 -- the count that an addition left: where its stretch ends
 abbrev pub end_of : Addition → ℕ

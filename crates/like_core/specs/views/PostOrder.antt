@@ -1,16 +1,10 @@
 -- One order of all that some posts made; and what follows from it.
-use Rattle.std.specs.Prelude.{◌≡◌, ℕ, ◌==◌, ◌<◌, ◌≤◌, All, List, [], count_by, slice_index}
-use Rattle.std.specs.List.{sum_by}
-use Rattle.like_core.specs.declared.log.LogEntry.{LogEntry}
-use Rattle.like_core.specs.declared.opening.Opening.{Opening}
-use Rattle.like_core.specs.Log.{PhasesRise, logged_by, steps_in}
+use Rattle.std.specs.Prelude.{◌≡◌, ℕ, ◌==◌, ◌<◌, ◌≤◌, All, List, [], count_by, slice_index, sum_by}
 use Rattle.like_core.specs.PageSteps.{AreInTurn, additions_among, stretches_of}
-use Rattle.like_core.specs.declared.view.WorkerSeatView.{WorkerSeatView}
-use Rattle.like_core.specs.views.Posts.{last_count, posts_added, posts_before, posts_of}
-use Rattle.like_core.specs.views.Reads.{HaveBetween}
 use Rattle.like_core.specs.views.Places.{ArePlaced, AreTiles, Counting}
-use Rattle.like_core.specs.views.Order.{HasMade}
-use Rattle.like_core.specs.views.Shows.{Moment}
+use Rattle.like_core.specs.views.Posts.{last_count, posts_added, posts_before, posts_of}
+use Rattle.like_core.specs.{Log.PhasesRise, Log.logged_by, Log.steps_in, Types.LogEntry, Types.Opening}
+use Rattle.like_core.specs.{Types.WorkerSeatView, views.Order.HasMade, views.Reads.HaveBetween, views.Shows.Moment}
 
 -- one order of all that these posts made, the latest entry first: each step at a page found what those before it left;
 -- phases never fall, and none is later than this; what each post made are its worker's entries, with their numbers; no

@@ -1,11 +1,7 @@
 -- The posts of all workers whose seats some views tell, and how much these have added.
-use Rattle.std.specs.Prelude.{ℕ, ◌+◌, List, [], ◌∷◌}
-use Rattle.std.specs.List.{flat_map, sum_by}
-use Rattle.like_core.specs.declared.view.WorkerSeatView.{WorkerSeatView}
-use Rattle.like_core.specs.declared.view.View.{View}
-use Rattle.like_core.specs.declared.view.View.TheVariants.{Coord, Worker, Spent}
-use Rattle.like_core.specs.Additions.{added_before, added_to}
-use Rattle.like_core.specs.PageSteps.{additions_among}
+use Rattle.std.specs.Prelude.{ℕ, ◌+◌, List, [], ◌∷◌, flat_map, sum_by}
+use Rattle.like_core.specs.Types.{Coord, Spent, View, Worker, WorkerSeatView}
+use Rattle.like_core.specs.{Additions.added_before, Additions.added_to, PageSteps.additions_among}
 
 -- the workers' seats that a view tells: its own, or those that were given back to the coordinator's
 abbrev pub workers_of : View → List WorkerSeatView

@@ -1,10 +1,7 @@
 -- What is true of the counts that workers and the coordinator read.
 use Rattle.std.specs.Prelude.{◌≡◌, ℕ, ◌+◌, ◌≤◌, List, ◌∷◌, ◌++◌, slice_index}
-use Rattle.like_core.specs.declared.page_step.PageStep.{PageStep}
-use Rattle.like_core.specs.declared.view.PageCount.{PageCount}
-use Rattle.like_core.specs.Additions.{added_in}
-use Rattle.like_core.specs.PageSteps.{additions_among, likes_of}
-use Rattle.like_core.specs.declared.view.WorkerSeatView.{WorkerSeatView}
+use Rattle.like_core.specs.Types.{PageCount, PageStep, WorkerSeatView}
+use Rattle.like_core.specs.{Additions.added_in, PageSteps.additions_among, PageSteps.likes_of}
 
 -- a worker's step lies between what was added: `before` tells how much all have added to a page before a phase, `later`
 -- are the worker's steps after this one, and `earlier` those before it

@@ -1,18 +1,12 @@
 -- What a form of the phase word has to keep: in each state that can be reached, the word shows the state, and each step
 -- makes of it the word of the state after.
 use Rattle.std.specs.Prelude.{◌≡◌, ℕ, ◌+◌, ◌%◌, ◌^◌, ◌<◌, ◌≤◌, ◌↔◌, true, false, IsTrue}
-use Rattle.like_core.specs.declared.form.Form.{Form}
-use Rattle.like_core.specs.declared.opening.Opening.{Opening}
-use Rattle.like_core.specs.declared.worker_state.WorkerState.{WorkerState}
-use Rattle.like_core.specs.declared.worker_state.WorkerState.TheVariants.{Runs, Answered, Gone}
-use Rattle.like_core.specs.Functions.{update, how_many}
-use Rattle.like_core.specs.WorkerState.{looked}
-use Rattle.like_core.specs.core.Numbers.{AllIn, AllGone}
-use Rattle.like_core.specs.core.State.{CoreState, numbers}
-use Rattle.like_core.specs.core.Moves.{Reached, after_return}
+use Rattle.like_core.specs.Types.{Answered, Gone, Opening, Runs, WorkerState}
+use Rattle.like_core.specs.core.{Numbers.AllGone, Numbers.AllIn, State.CoreState, State.numbers}
 use Rattle.like_core.specs.word.Forms.{WordForm, form_of, has_answered, is_gone, kind_in}
 use Rattle.like_core.specs.word.ShownWord.{shown_word, word_in}
-use Rattle.like_core.specs.views.Shows.{IsOpening}
+use Rattle.like_core.specs.{Functions.how_many, Functions.update, declared.form.Form.Form}
+use Rattle.like_core.specs.{WorkerState.looked, core.Moves.Reached, core.Moves.after_return, views.Shows.IsOpening}
 
 -- worker i is in another state, and all else is the same
 abbrev pub moved : CoreState → ℕ → WorkerState → CoreState

@@ -1,36 +1,20 @@
 -- The rule of a board: its words and the views of all seats show a state of the core.
-use Rattle.std.specs.Prelude.{◌≡◌, ◌⊎◌, ℕ, Bool, false, ◌+◌, ◌^◌, ◌<◌, ◌≤◌, All, nat_lt, true, if◌then◌else◌, List, [], ◌∷◌, ◌++◌, length, take, slice_index, slice_set, IfSome, IsSome, fold}
-use Rattle.std.specs.List.{sum_by}
-use mathlib.Core.Option.{some}
+use Rattle.std.specs.Prelude.{◌≡◌, ◌⊎◌, ℕ, Bool, false, ◌+◌, ◌^◌, ◌<◌, ◌≤◌, All, nat_lt, true, if◌then◌else◌, List, [], ◌∷◌, ◌++◌, length, take, slice_index, slice_set, IfSome, IsSome, fold, sum_by}
 use lib.ListN.{get_elem?}
-use Rattle.like_core.specs.declared.worker_state.WorkerState.TheVariants.{Runs}
-use Rattle.like_core.specs.declared.event.Event.{Event}
-use Rattle.like_core.specs.declared.shown.Shown.{Shown}
-use Rattle.like_core.specs.declared.opening.Opening.{Opening}
-use Rattle.like_core.specs.declared.log.LogEntry.{LogEntry}
-use Rattle.like_core.specs.declared.view.WorkerSeatView.{WorkerSeatView}
-use Rattle.like_core.specs.declared.view.CoordSeatView.{CoordSeatView}
-use Rattle.like_core.specs.declared.view.View.{View}
-use Rattle.like_core.specs.declared.view.View.TheVariants.{Coord, Worker, Spent}
+use mathlib.Core.Option.{some}
 use Rattle.like_limits.specs.Limits.{hot_pages, max_count}
-use Rattle.like_core.specs.Phase.{IsSplit}
 use Rattle.like_core.specs.OpeningLimits.{AreLimits, has_slots}
-use Rattle.like_core.specs.Slots.{IsChoice, mask_by}
-use Rattle.like_core.specs.PhaseMasks.{mask_of}
-use Rattle.like_core.specs.core.Numbers.{AllIn, AllGone, CoordSees}
-use Rattle.like_core.specs.core.State.{CoreState, after, numbers}
-use Rattle.like_core.specs.core.Reachable.{Reachable, PermitsAll}
-use Rattle.like_core.specs.core.Moves.{IsShownBy, LetsReturn, MayMove, Move, makes, NoneReturns, Reached, after_move}
-use Rattle.like_core.specs.core.Exclusive.{NoneUnmerged}
-use Rattle.like_core.specs.word.ShownWord.{shown_word}
+use Rattle.like_core.specs.Types.{Coord, CoordSeatView, Event, LogEntry, Opening, Runs, Shown, Spent, View, Worker}
+use Rattle.like_core.specs.Types.{WorkerSeatView}
 use Rattle.like_core.specs.WorkerState.{IsRunning, RunsSplit, SawEnding, SawNoLater}
-use Rattle.like_core.specs.views.Views.{seats_of}
-use Rattle.like_core.specs.views.Reads.{IsCounted}
-use Rattle.like_core.specs.views.Posts.{posts_before, posts_of}
-use Rattle.like_core.specs.views.Tallies.{Tallied}
-use Rattle.like_core.specs.views.Places.{count_after}
-use Rattle.like_core.specs.views.Order.{IsOrder}
-use Rattle.like_core.specs.views.Layout.{phase_place, mask_place, slot_in, word_of}
+use Rattle.like_core.specs.core.Moves.{IsShownBy, LetsReturn, MayMove, Move, NoneReturns, Reached, after_move, makes}
+use Rattle.like_core.specs.core.Numbers.{AllGone, AllIn, CoordSees}
+use Rattle.like_core.specs.core.{Reachable.PermitsAll, Reachable.Reachable, State.CoreState, State.after, State.numbers}
+use Rattle.like_core.specs.views.Layout.{mask_place, phase_place, slot_in, word_of}
+use Rattle.like_core.specs.views.{Order.IsOrder, Reads.IsCounted, Tallies.Tallied, Views.seats_of}
+use Rattle.like_core.specs.{Phase.IsSplit, PhaseMasks.mask_of, views.Posts.posts_before, views.Posts.posts_of}
+use Rattle.like_core.specs.{Slots.IsChoice, Slots.mask_by, core.Exclusive.NoneUnmerged}
+use Rattle.like_core.specs.{views.Places.count_after, word.ShownWord.shown_word}
 
 -- an opening that a board may have
 pub record IsOpening (z : Opening) : Type 0 where

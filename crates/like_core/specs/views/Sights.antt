@@ -1,8 +1,6 @@
 -- What a look sees in a phase word.
 use Rattle.std.specs.Prelude.{ℕ, ◌/◌, ◌%◌, ◌==◌}
-use Rattle.like_core.specs.declared.sight.Sight.{Sight}
-use Rattle.like_core.specs.declared.sight.CoordSight.{CoordSight}
-use Rattle.like_core.specs.word.Forms.{WordForm}
+use Rattle.like_core.specs.{Types.CoordSight, Types.Sight, word.Forms.WordForm}
 
 -- what a worker sees in a word of this form. It waits if the word's phase is split and it has answered an odd one last,
 -- or neither: so the word's lowest two bits tell it

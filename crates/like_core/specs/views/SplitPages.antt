@@ -1,19 +1,12 @@
 -- Which pages are split at a moment of a board.
 use Rattle.std.specs.Prelude.{◌≡◌, ℕ, ◌<◌, ◌↔◌, true, false, length, slice_index}
-use mathlib.Core.Option.{some}
 use lib.ListN.{get_elem?}
+use mathlib.Core.Option.{some}
 use Rattle.like_limits.specs.Limits.{hot_pages}
-use Rattle.like_core.specs.declared.opening.Opening.{Opening}
-use Rattle.like_core.specs.declared.view.WorkerSeatView.{WorkerSeatView}
-use Rattle.like_core.specs.declared.view.View.TheVariants.{Worker}
-use Rattle.like_core.specs.Phase.{IsSplit, is_marked}
-use Rattle.like_core.specs.OpeningLimits.{has_slots}
-use Rattle.like_core.specs.Slots.{IsChoice, IsInSlot}
-use Rattle.like_core.specs.WorkerState.{IsRunning}
-use Rattle.like_core.specs.Post.{KnowsSplit, is_split_at}
-use Rattle.like_core.specs.core.State.{is_split_now}
 use Rattle.like_core.specs.views.Layout.{mask_place, slot_in}
-use Rattle.like_core.specs.views.Shows.{Moment}
+use Rattle.like_core.specs.{OpeningLimits.has_slots, Phase.IsSplit, Phase.is_marked, Post.KnowsSplit, Post.is_split_at}
+use Rattle.like_core.specs.{Slots.IsChoice, Slots.IsInSlot, Types.Opening, Types.Worker, Types.WorkerSeatView}
+use Rattle.like_core.specs.{WorkerState.IsRunning, core.State.is_split_now, views.Shows.Moment}
 
 -- the choice in the slots is lawful, and an unmarked page is split just where a slot in use holds it
 pub record AreExact (z : Opening) (m : Moment z) : Type 0 where

@@ -1,13 +1,7 @@
 -- How much may still be added to a page's count.
-use Rattle.std.specs.Prelude.{ℕ, ◌+◌, ◌-◌, ◌*◌, ◌≤◌, List, length}
-use Rattle.std.specs.List.{sum_by}
-use Rattle.like_core.specs.declared.limits.Limits.{Limits}
-use Rattle.like_core.specs.declared.view.WorkerSeatView.{WorkerSeatView}
-use Rattle.like_core.specs.declared.view.View.{View}
-use Rattle.like_core.specs.declared.view.View.TheVariants.{Coord, Worker, Spent}
-use Rattle.like_core.specs.core.State.{CoreState}
-use Rattle.like_core.specs.Additions.{added_to}
-use Rattle.like_core.specs.PageSteps.{additions_among}
+use Rattle.std.specs.Prelude.{ℕ, ◌+◌, ◌-◌, ◌*◌, ◌≤◌, List, length, sum_by}
+use Rattle.like_core.specs.Types.{Coord, Limits, Spent, View, Worker, WorkerSeatView}
+use Rattle.like_core.specs.{Additions.added_to, PageSteps.additions_among, core.State.CoreState}
 
 -- how much a worker may still add to a page, if it may add this many likes to it
 abbrev pub left_to : ℕ → ℕ → WorkerSeatView → ℕ

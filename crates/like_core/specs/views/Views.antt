@@ -1,21 +1,11 @@
 -- The coordinator's view: how it begins, and what each step makes of it; and the likes that a worker's additions merge.
-use Rattle.std.specs.Prelude.{◌≡◌, ℕ, ◌+◌, ◌==◌, ◌<◌, Bool, true, false, not, ◌&&◌, ◌||◌, ◌%◌, ◌^◌, if◌then◌else◌, List, [], ◌∷◌, ◌++◌, length, replicate, slice_index, slice_set, count_by, Option, Some, None, IsSome, IsSomeAnd}
-use Rattle.std.specs.Option.{unwrap_or}
-use Rattle.like_core.specs.declared.sight.CoordSight.{CoordSight}
-use Rattle.like_core.specs.declared.event.Event.{Event}
-use Rattle.like_core.specs.declared.event.Event.TheVariants.{Like, Merge}
-use Rattle.like_core.specs.declared.limits.Limits.{Limits}
-use Rattle.like_core.specs.declared.opening.Opening.{Opening}
-use Rattle.like_core.specs.declared.view.WorkerSeatView.{WorkerSeatView}
-use Rattle.like_core.specs.declared.view.CoordSeatView.{CoordSeatView}
-use Rattle.like_core.specs.declared.view.View.{View}
-use Rattle.like_core.specs.declared.view.View.TheVariants.{Coord, Worker, Spent}
+use Rattle.std.specs.Prelude.{◌≡◌, ℕ, ◌+◌, ◌==◌, ◌<◌, Bool, true, false, not, ◌&&◌, ◌||◌, ◌%◌, ◌^◌, if◌then◌else◌, List, [], ◌∷◌, ◌++◌, length, replicate, slice_index, slice_set, count_by, Option, Some, None, IsSome, IsSomeAnd, unwrap_or}
 use Rattle.like_limits.specs.Limits.{hot_pages}
-use Rattle.like_core.specs.Phase.{IsJoined}
-use Rattle.like_core.specs.OpeningLimits.{has_slots}
 use Rattle.like_core.specs.Slots.{IsChoice, mask_of_slots}
-use Rattle.like_core.specs.word.Forms.{form_of}
-use Rattle.like_core.specs.Post.{is_split_at}
+use Rattle.like_core.specs.Types.{Coord, CoordSeatView, CoordSight, Event, Limits, Opening, Spent, View, Worker}
+use Rattle.like_core.specs.Types.{WorkerSeatView}
+use Rattle.like_core.specs.declared.event.Event.TheVariants.{Like, Merge}
+use Rattle.like_core.specs.{OpeningLimits.has_slots, Phase.IsJoined, Post.is_split_at, word.Forms.form_of}
 
 -- the coordinator's view before its first step, when this is the phase word
 abbrev pub fresh_coord : Opening → ℕ → CoordSeatView

@@ -1,12 +1,10 @@
 -- The two forms of the phase word. A program's word has two bits for each worker; a service's counts how many have
 -- answered and how many are gone.
 use Rattle.std.specs.Prelude.{ℕ, ◌+◌, ◌*◌, ◌/◌, ◌%◌, ◌^◌, ◌==◌, ◌||◌, nat_lt, bit_or, Bool, true, false, if◌then◌else◌}
-use Rattle.like_core.specs.declared.worker_state.WorkerState.{WorkerState}
-use Rattle.like_core.specs.declared.worker_state.WorkerState.TheVariants.{Runs, Answered, Gone}
-use Rattle.like_core.specs.declared.form.Form.{Form}
-use Rattle.like_core.specs.declared.form.Form.TheVariants.{Bits, Counts}
 use Rattle.like_core.specs.Functions.{each_below, has_bit, how_many, mask, weight}
-use Rattle.like_core.specs.word.Word.{packed, answer_bit, retirement_bit}
+use Rattle.like_core.specs.Types.{Answered, Gone, Runs, WorkerState}
+use Rattle.like_core.specs.declared.form.Form.{Form, TheVariants.Bits, TheVariants.Counts}
+use Rattle.like_core.specs.word.Word.{answer_bit, packed, retirement_bit}
 
 -- whether a worker in this state has answered this phase
 abbrev pub has_answered : ℕ → WorkerState → Bool

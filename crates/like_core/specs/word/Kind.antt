@@ -1,7 +1,7 @@
 -- The four kinds of a phase word, as bits.
 use Rattle.std.specs.Prelude.{ℕ}
-use Rattle.like_core.specs.declared.phase_word.kind.Kind.{Kind}
-use Rattle.like_core.specs.declared.phase_word.kind.Kind.TheVariants.{JoinedRunning, JoinedEnding, SplitRunning, SplitEnding}
+use Rattle.like_core.specs.declared.phase_word.kind.Kind.{Kind, TheVariants.JoinedEnding, TheVariants.JoinedRunning}
+use Rattle.like_core.specs.declared.phase_word.kind.Kind.{TheVariants.SplitEnding, TheVariants.SplitRunning}
 
 -- a kind's two bits in a phase word: the low one is set if the phase is ending, the high one if it is split
 abbrev pub code_of : Kind → ℕ

@@ -1,11 +1,7 @@
 -- Why a worker needs no more of a phase word than its kind.
 use Rattle.std.specs.Prelude.{◌≡◌, ◌≢◌, ℕ, ◌+◌, ◌/◌, ◌%◌, ◌==◌, if◌then◌else◌}
-use Rattle.like_core.specs.declared.worker_state.WorkerState.{WorkerState}
-use Rattle.like_core.specs.declared.worker_state.WorkerState.TheVariants.{Runs, Answered, Gone}
-use Rattle.like_core.specs.declared.opening.Opening.{Opening}
-use Rattle.like_core.specs.core.State.{CoreState}
-use Rattle.like_core.specs.core.Moves.{Reached}
-use Rattle.like_core.specs.word.ShownWord.{shown_word}
+use Rattle.like_core.specs.Types.{Answered, Gone, Opening, Runs, WorkerState}
+use Rattle.like_core.specs.{core.Moves.Reached, core.State.CoreState, word.ShownWord.shown_word}
 
 -- the phase that a word of this kind tells a worker in this state. If it has answered phase j, that is j if the kind is
 -- split and j is, or neither is; otherwise it is j + 1

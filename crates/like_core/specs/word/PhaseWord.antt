@@ -1,6 +1,5 @@
 -- The fields of a `PhaseWord`.
-use Rattle.like_core.specs.declared.phase_word.PhaseWord.{PhaseWord}
-use Rattle.like_core.specs.word.Word.{Fields, word_fields}
+use Rattle.like_core.specs.{declared.phase_word.PhaseWord.PhaseWord, word.Word.Fields, word.Word.word_fields}
 
 -- the fields of a phase word as numbers
 abbrev pub fields_of : PhaseWord → Fields

@@ -1,8 +1,6 @@
 -- The phase word of a state of the core.
 use Rattle.std.specs.Prelude.{ℕ}
-use Rattle.like_core.specs.declared.opening.Opening.{Opening}
-use Rattle.like_core.specs.core.State.{CoreState}
-use Rattle.like_core.specs.word.Forms.{WordForm, form_of}
+use Rattle.like_core.specs.{Types.Opening, core.State.CoreState, word.Forms.WordForm, word.Forms.form_of}
 
 -- the word of this form in a state of the core
 abbrev pub word_in : WordForm → Opening → CoreState → ℕ

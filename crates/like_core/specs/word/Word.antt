@@ -1,9 +1,7 @@
 -- The phase word of a program: its fields, and the number that has them.
 use Rattle.std.specs.Prelude.{◌≡◌, ℕ, ◌+◌, ◌*◌, ◌%◌, ◌^◌, ◌<◌, ◌≤◌, ◌↔◌, bit_and}
-use Rattle.like_core.specs.declared.phase_word.kind.Kind.{Kind}
 use Rattle.like_limits.specs.Limits.{max_workers}
-use Rattle.like_core.specs.word.Kind.{code_of}
-use Rattle.like_core.specs.Phase.{last_phase, IsJoined}
+use Rattle.like_core.specs.{Phase.IsJoined, Phase.last_phase, declared.phase_word.kind.Kind.Kind, word.Kind.code_of}
 
 -- the fields of a phase word as numbers: bit i of `answered` and of `retired` is worker i's
 pub record Fields : Type 0 where

@@ -1,12 +1,7 @@
 -- What a worker's additions are of: its likes.
-use Rattle.std.specs.Prelude.{◌≡◌, ℕ, ◌≤◌, ◌==◌, ◌&&◌, nat_le, Bool, true, false, if◌then◌else◌, All, List, drop, count_by, slice_get}
-use Rattle.std.specs.List.{AllPairs}
-use Rattle.std.specs.Option.{option_to_list}
-use Rattle.like_core.specs.declared.view.Addition.{Addition}
-use Rattle.like_promises.specs.declared.log.Added.{Added}
-use Rattle.like_promises.specs.declared.log.Ran.{Ran}
-use Rattle.like_promises.specs.Likes.{likes_within}
-use Rattle.like_promises.specs.Workload.{Workload, is_split_in}
+use Rattle.std.specs.Prelude.{◌≡◌, ℕ, ◌≤◌, ◌==◌, ◌&&◌, nat_le, Bool, true, false, if◌then◌else◌, All, List, drop, count_by, slice_get, AllPairs, option_to_list}
+use Rattle.like_core.specs.Types.{Addition}
+use Rattle.like_promises.specs.{Likes.likes_within, Types.Added, Types.Ran, Workload.Workload, Workload.is_split_in}
 
 -- the post's addition that is noted so
 abbrev pub addition_of : Added → Addition

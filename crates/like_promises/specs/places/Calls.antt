@@ -1,16 +1,9 @@
 -- What a worker called at pages, by its run list and its additions.
-use Rattle.std.specs.Prelude.{ℕ, ◌+◌, ◌==◌, List, ◌++◌, filter, length, map, slice_get, Option, Some, None, option_and_then}
-use Rattle.std.specs.List.{flat_map, range_with_len}
-use Rattle.std.specs.Option.{option_to_list}
-use Rattle.like_core.specs.declared.view.Addition.{Addition}
-use Rattle.like_promises.specs.declared.log.Added.{Added}
-use Rattle.like_promises.specs.declared.log.Ran.{Ran}
-use Rattle.like_promises.specs.declared.reply.Reply.{Reply}
-use Rattle.like_promises.specs.declared.reply.Reply.TheVariants.{Seen}
-use Rattle.like_promises.specs.places.Adds.{addition_of}
-use Rattle.like_promises.specs.Asked.{asked}
-use Rattle.like_promises.specs.Store.{Ask, look}
-use Rattle.like_promises.specs.Workload.{Workload}
+use Rattle.std.specs.Prelude.{ℕ, ◌+◌, ◌==◌, List, ◌++◌, filter, length, map, slice_get, Option, Some, None, option_and_then, flat_map, option_to_list}
+use Rattle.std.specs.List.{range_with_len}
+use Rattle.like_core.specs.Types.{Addition}
+use Rattle.like_promises.specs.Types.{Added, Ran, Reply, Seen}
+use Rattle.like_promises.specs.{Asked.asked, Store.Ask, Store.look, Workload.Workload, places.Adds.addition_of}
 
 -- the stretch of a look, by its answer: it is empty, at the count shown
 abbrev pub stretch_shown : ℕ → Ask → Reply → Option Addition

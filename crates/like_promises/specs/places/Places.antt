@@ -1,11 +1,7 @@
 -- The places of the additions to each page.
-use Rattle.std.specs.Prelude.{◌≡◌, ℕ, ◌<◌, ◌==◌, List, [], Vec, filter, length, map, slice_index_or}
-use Rattle.std.specs.List.{enumerate_from, flat_map}
-use Rattle.std.specs.List.Sorted.{IsNonDecreasingBy}
-use Rattle.std.specs.declared.alloc.Global.{Global}
-use Rattle.like_promises.specs.declared.log.Added.{Added}
-use Rattle.like_promises.specs.declared.log.WorkerLog.{WorkerLog}
-use Rattle.like_promises.specs.declared.place.Place.{Place}
+use Rattle.std.specs.Prelude.{◌≡◌, ℕ, ◌<◌, ◌==◌, List, [], Vec, filter, length, map, slice_index_or, flat_map}
+use Rattle.std.specs.{List.Sorted.IsNonDecreasingBy, List.enumerate_from, declared.alloc.Global.Global}
+use Rattle.like_promises.specs.Types.{Added, Place, WorkerLog}
 
 -- the places of a worker's additions to a page, in order
 abbrev pub places_of : ℕ → ℕ → List Added → List Place

@@ -1,17 +1,9 @@
 -- What a report says of the places of the additions to each page.
-use Rattle.std.specs.Prelude.{◌≡◌, ℕ, ◌+◌, ◌≤◌, ◌&&◌, nat_le, nat_lt, if◌then◌else◌, All, List, count_by, length, map, slice_index}
-use Rattle.std.specs.List.{flat_map}
-use Rattle.like_core.specs.declared.view.Addition.{Addition}
-use Rattle.like_core.specs.views.Places.{ArePlaced, covers, end_of}
-use Rattle.like_promises.specs.declared.log.Ran.{Ran}
-use Rattle.like_promises.specs.declared.log.WorkerLog.{WorkerLog}
-use Rattle.like_promises.specs.places.Adds.{AddsItsLikes, addition_of}
-use Rattle.like_promises.specs.places.Calls.{calls_of}
-use Rattle.like_promises.specs.Likes.{initial_count}
-use Rattle.like_promises.specs.RunStore.{count_at}
-use Rattle.like_promises.specs.Workload.{Workload}
-use Rattle.like_promises.specs.declared.report.Report.{Report}
-use Rattle.like_promises.specs.places.Places.{ArePlaces}
+use Rattle.std.specs.Prelude.{◌≡◌, ℕ, ◌+◌, ◌≤◌, ◌&&◌, nat_le, nat_lt, if◌then◌else◌, All, List, count_by, length, map, slice_index, flat_map}
+use Rattle.like_core.specs.{Types.Addition, views.Places.ArePlaced, views.Places.covers, views.Places.end_of}
+use Rattle.like_promises.specs.Types.{Ran, Report, WorkerLog}
+use Rattle.like_promises.specs.places.{Adds.AddsItsLikes, Adds.addition_of, Calls.calls_of, Places.ArePlaces}
+use Rattle.like_promises.specs.{Likes.initial_count, RunStore.count_at, Workload.Workload}
 
 -- the additions of all logs
 abbrev pub all_noted : List WorkerLog → List Addition

@@ -1,17 +1,12 @@
 -- How the coordinator chooses hot pages: by how much the counts of pages rose since its last choice.
 use Rattle.std.specs.Prelude.{◌≡◌, ℕ, ◌+◌, ◌-◌, ◌%◌, ◌<◌, ◌≤◌, ◌==◌, nat_lt, if◌then◌else◌, List, [], ◌∷◌, ◌++◌, filter, length, min, slice_index, All, Option, Some, None}
-use Rattle.std.specs.List.{range_with_len}
-use Rattle.std.specs.Option.{option_map_or}
-use Rattle.like_core.specs.declared.view.CoordSeatView.{CoordSeatView}
-use Rattle.like_core.specs.declared.view.PageCount.{PageCount}
+use Rattle.std.specs.{List.range_with_len, Option.option_map_or}
 use Rattle.like_limits.specs.Limits.{hot_pages}
-use Rattle.like_core.specs.Phase.{IsJoined, IsSplit}
-use Rattle.like_core.specs.PhaseMasks.{mask_of}
 use Rattle.like_core.specs.views.Views.{published_coord, released_coord}
-use Rattle.like_promises.specs.declared.chosen.Chosen.{Chosen}
+use Rattle.like_core.specs.{Phase.IsJoined, Phase.IsSplit, PhaseMasks.mask_of, Types.CoordSeatView, Types.PageCount}
 use Rattle.like_seat.specs.Lead.{LeadView, counted_from, of_hot_pages, risen}
 use Rattle.like_promises.specs.HotPages.{chosen_below, hot_by, max_chosen}
-use Rattle.like_promises.specs.Likes.{last_in}
+use Rattle.like_promises.specs.{Likes.last_in, Types.Chosen}
 
 -- what the coordinator chooses by: how many likes make a page hot, if any do; the counts at its last choice of the pages
 -- that may be hot; and the choices of some page, in order

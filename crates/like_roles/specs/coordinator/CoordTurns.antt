@@ -1,17 +1,14 @@
 -- The turns of the coordinator, case by case.
 use Rattle.std.specs.Prelude.{◌≡◌, ℕ, ◌-◌, ◌<◌, true, false, List, [], IsSomeAnd, Option}
-use Rattle.like_core.specs.declared.sight.CoordSight.{CoordSight}
-use Rattle.like_core.specs.declared.view.CoordSeatView.{CoordSeatView}
-use Rattle.like_core.specs.Phase.{last_phase, IsJoined, IsSplit}
-use Rattle.like_core.specs.views.Actions.{Surveys}
-use Rattle.like_core.specs.views.Views.{announced_coord, looked_coord}
-use Rattle.like_board.specs.Led.{BoardView, IsSightOf, ShowsTold}
-use Rattle.like_board.specs.Seats.{BoardId}
+use Rattle.like_core.specs.{Phase.IsJoined, Phase.IsSplit, Phase.last_phase, Types.CoordSeatView, Types.CoordSight}
+use Rattle.like_core.specs.{views.Actions.Surveys, views.Views.announced_coord, views.Views.looked_coord}
+use Rattle.like_board.specs.{Led.BoardView, Led.IsSightOf, Led.ShowsTold, Seats.BoardId}
 use Rattle.like_seat.specs.Lead.{LeadView}
-use Rattle.like_promises.specs.declared.chosen.Chosen.{Chosen}
-use Rattle.like_roles.specs.declared.coord_turn.CoordTurn.{CoordTurn}
-use Rattle.like_roles.specs.declared.coord_turn.CoordTurn.TheVariants.{Counted, Announced, Waiting, Released, Ended, Stays}
+use Rattle.like_promises.specs.Types.{Chosen}
 use Rattle.like_roles.specs.coordinator.Choice.{AreTotals, ChoiceView, HasChosen, ReleasesNext, choice_of, first_choice}
+use Rattle.like_roles.specs.declared.coord_turn.CoordTurn.TheVariants.{Announced, Counted, Ended, Released, Stays}
+use Rattle.like_roles.specs.declared.coord_turn.CoordTurn.TheVariants.{Waiting}
+use Rattle.like_roles.specs.declared.coord_turn.CoordTurn.{CoordTurn}
 
 -- the coordinator as contracts see it: its board; what its seat knows; how many turns it counts in each phase, and how
 -- many of them the present phase has left; the phase of its last look; and what it chooses hot pages by

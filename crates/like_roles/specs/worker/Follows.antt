@@ -1,39 +1,19 @@
 -- What a worker has done, as the plans of its submitters say it should.
-use Rattle.std.specs.Prelude.{◌≡◌, ℕ, ◌+◌, ◌%◌, ◌≤◌, ◌==◌, ◌&&◌, if◌then◌else◌, Bool, true, false, List, [], ◌++◌, length, map, filter, count_by, slice_get, slice_index, All, Some, ⊤}
-use Rattle.std.specs.List.{AllPairs}
-use Rattle.std.specs.Option.{option_to_list}
-use Rattle.like_requests.specs.Pages.{marks_of}
-use Rattle.like_requests.specs.declared.setup.Setup.{Setup}
-use Rattle.like_requests.specs.declared.request.Taken.{Taken}
-use Rattle.like_requests.specs.declared.request.Taken.TheVariants as taken
-use Rattle.like_core.specs.declared.page_step.PageStep.{PageStep}
-use Rattle.like_core.specs.declared.worker_state.WorkerState.{WorkerState}
-use Rattle.like_core.specs.declared.worker_state.WorkerState.TheVariants.{Runs, Answered, Gone}
-use Rattle.like_core.specs.OpeningLimits.{run_limits}
-use Rattle.like_core.specs.Phase.{IsJoined}
-use Rattle.like_core.specs.declared.opening.Opening.{Opening}
-use Rattle.like_core.specs.declared.view.PhaseMask.{PhaseMask}
-use Rattle.like_core.specs.Additions.{added_in, added_to}
-use Rattle.like_core.specs.PhaseMasks.{AreMasksOf}
-use Rattle.like_core.specs.WorkerState.{IsRunning, RunsJoined}
-use Rattle.like_core.specs.Post.{additions_of, additions_in, pages_of}
+use Rattle.std.specs.Prelude.{◌≡◌, ℕ, ◌+◌, ◌%◌, ◌≤◌, ◌==◌, ◌&&◌, if◌then◌else◌, Bool, true, false, List, [], ◌++◌, length, map, filter, count_by, slice_get, slice_index, All, Some, ⊤, AllPairs, option_to_list}
+use Rattle.like_requests.specs.{Pages.marks_of, Setup.IsThere, Types.Setup, Types.Taken, Types.Taken as taken}
 use Rattle.like_core.specs.PageSteps.{additions_among, earliest_first, likes_of, stretches_of}
-use Rattle.like_tables.specs.Share.{Share}
-use Rattle.like_tables.specs.UserTable.{UserTable, last_of}
-use Rattle.like_tables.specs.declared.held.Held.{Held}
-use Rattle.like_promises.specs.declared.log.Added.{Added}
-use Rattle.like_promises.specs.declared.log.Ran.{Ran}
-use Rattle.like_promises.specs.declared.log.Took.{Took}
-use Rattle.like_promises.specs.places.Adds.{IsOfLikes, AddsItsLikes, addition_of, is_add_to}
-use Rattle.like_promises.specs.Likes.{likes_among, likes_within}
-use Rattle.like_promises.specs.places.Calls.{calls_of}
+use Rattle.like_core.specs.Types.{Answered, Gone, Opening, PageStep, Runs, WorkerState}
+use Rattle.like_core.specs.{Additions.added_in, Additions.added_to, OpeningLimits.run_limits, Phase.IsJoined}
+use Rattle.like_core.specs.{PhaseMasks.AreMasksOf, Post.additions_in, Post.additions_of, Post.pages_of}
+use Rattle.like_core.specs.{WorkerState.IsRunning, WorkerState.RunsJoined, declared.view.PhaseMask.PhaseMask}
+use Rattle.like_tables.specs.{Share.Share, UserTable.UserTable, UserTable.last_of, declared.held.Held.Held}
 use Rattle.like_promises.specs.Order.{Entry, entry_of, is_due, order}
-use Rattle.like_promises.specs.Replies.{HasRightAnswers}
-use Rattle.like_promises.specs.RunStore.{store_after}
 use Rattle.like_promises.specs.Workload.{Workload, is_split_in, request_at, submitters}
+use Rattle.like_promises.specs.places.Adds.{AddsItsLikes, IsOfLikes, addition_of, is_add_to}
+use Rattle.like_promises.specs.{Likes.likes_among, Likes.likes_within, RunStore.store_after, places.Calls.calls_of}
+use Rattle.like_promises.specs.{Replies.HasRightAnswers, Types.Added, Types.Ran, Types.Took}
 use Rattle.like_serial.specs.StepsTold.{plain_told, steps_ran}
-use Rattle.like_requests.specs.Setup.{IsThere}
-use Rattle.like_roles.specs.worker.WorkerView.{WorkerView, TookAllEnds, phase_at, submitter_at}
+use Rattle.like_roles.specs.worker.WorkerView.{TookAllEnds, WorkerView, phase_at, submitter_at}
 
 -- the workload is the one that is served at a board with this opening, by a worker with this share, with as much room for
 -- looks that wait; the masks that its post read are the workload's, and the board has the limits of a run

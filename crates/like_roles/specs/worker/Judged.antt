@@ -1,10 +1,8 @@
 -- What a judged request asks.
 use Rattle.std.specs.Prelude.{◌≡◌}
+use Rattle.like_tables.specs.{Share.Share, declared.held.Held.Held}
 use Rattle.like_promises.specs.Store.{like, look, refuse}
-use Rattle.like_tables.specs.Share.{Share}
-use Rattle.like_tables.specs.declared.held.Held.{Held}
-use Rattle.like_roles.specs.declared.worker.judged.Judged.{Judged}
-use Rattle.like_roles.specs.declared.worker.judged.Judged.TheVariants as judged
+use Rattle.like_roles.specs.declared.worker.judged.Judged.{Judged, Judged as judged}
 use Rattle.like_roles.specs.worker.WorkerView.{asked_in}
 
 -- it is judged as what the request asks

@@ -1,25 +1,15 @@
 -- What a worker keeps beside its station.
 use Rattle.std.specs.Prelude.{◌≡◌, ℕ, ◌+◌, ◌-◌, ◌<◌, ◌≤◌, true, false, List, [], ◌∷◌, ◌++◌, length, sum, All, Some, None, is_some, replicate, slice_index, slice_set, vec_len, vec_capacity, if◌then◌else◌}
-use Rattle.like_requests.specs.declared.setup.Setup.{Setup}
-use Rattle.like_requests.specs.Setup.{IsThere}
-use Rattle.like_core.specs.OpeningLimits.{run_limits}
-use Rattle.like_core.specs.Phase.{IsJoined, IsSplit}
-use Rattle.like_core.specs.Post.{pages_of}
-use Rattle.like_core.specs.WorkerState.{IsRunning, phase_of}
-use Rattle.like_core.specs.Additions.{all_added}
-use Rattle.like_core.specs.PageSteps.{additions_among}
-use Rattle.like_core.specs.declared.view.WorkerSeatView.{WorkerSeatView}
-use Rattle.like_tables.specs.declared.held.Held.{Held}
 use Rattle.like_limits.specs.Limits.{max_likes}
+use Rattle.like_requests.specs.{Setup.IsThere, Types.Setup}
+use Rattle.like_core.specs.WorkerState.{IsRunning, phase_of}
+use Rattle.like_core.specs.{Additions.all_added, OpeningLimits.run_limits, PageSteps.additions_among, Phase.IsJoined}
+use Rattle.like_core.specs.{Phase.IsSplit, Post.pages_of, Types.WorkerSeatView}
 use Rattle.like_tables.specs.Share.{Share, dealt, submitter_of, worker_of}
+use Rattle.like_tables.specs.{StashView.StashView, declared.held.Held.Held}
 use Rattle.like_seat.specs.StationView.{IsStationOf, StationView, likes_of}
-use Rattle.like_tables.specs.StashView.{StashView}
-use Rattle.like_roles.specs.declared.terms.Terms.{Terms}
-use Rattle.like_roles.specs.declared.worker.ledger.Ledger.{Ledger}
-use Rattle.like_roles.specs.declared.worker.judged.Judged.{Judged}
-use Rattle.like_roles.specs.worker.Judged.{IsJudged}
-use Rattle.like_roles.specs.worker.Serve.{noted_if}
-use Rattle.like_roles.specs.worker.WorkerView.{WorkerView, waits_at}
+use Rattle.like_roles.specs.declared.{terms.Terms.Terms, worker.judged.Judged.Judged, worker.ledger.Ledger.Ledger}
+use Rattle.like_roles.specs.worker.{Judged.IsJudged, Serve.noted_if, WorkerView.WorkerView, WorkerView.waits_at}
 
 -- the worker of a station and what is kept beside it
 abbrev pub view_of : StationView Held → Ledger → WorkerView

@@ -1,7 +1,7 @@
 -- The merge of a slice in the order of the pages.
 use Rattle.std.specs.Prelude.{◌≡◌, ℕ, ◌==◌, not, filter, List, map, slice_index, All}
 use Rattle.std.specs.List.{range_with_len}
-use Rattle.like_core.specs.declared.view.Addition.{Addition}
+use Rattle.like_core.specs.Types.{Addition}
 
 -- the pages below a number that a slice has likes of, in order
 abbrev pub liked_below : List ℕ → ℕ → List ℕ

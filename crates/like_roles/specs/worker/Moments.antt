@@ -1,14 +1,8 @@
 -- Workers at a moment of a run's board, which is between any two atomic steps.
 use Rattle.std.specs.Prelude.{◌≡◌, ℕ, ◌<◌, List, slice_index}
-use Rattle.like_core.specs.declared.opening.Opening.{Opening}
-use Rattle.like_core.specs.Functions.{times}
-use Rattle.like_core.specs.OpeningLimits.{run_limits}
-use Rattle.like_core.specs.WorkerState.{RunsJoined, RunsSplit}
-use Rattle.like_core.specs.core.Likes.{given}
-use Rattle.like_core.specs.core.Reachable.{Reachable}
-use Rattle.like_core.specs.views.Shows.{Moment}
-use Rattle.like_seat.specs.Moments.{IsPostAt}
-use Rattle.like_seat.specs.StationView.{IsSliceInSplit, IsStation}
+use Rattle.like_core.specs.{Functions.times, OpeningLimits.run_limits, Types.Opening, WorkerState.RunsJoined}
+use Rattle.like_core.specs.{WorkerState.RunsSplit, core.Likes.given, core.Reachable.Reachable, views.Shows.Moment}
+use Rattle.like_seat.specs.{Moments.IsPostAt, StationView.IsSliceInSplit, StationView.IsStation}
 use Rattle.like_roles.specs.worker.WorkerView.{WorkerView, station_of}
 
 -- at a moment worker i has this many likes of a page in its slice

@@ -1,19 +1,12 @@
 -- A worker that was just made.
 use Rattle.std.specs.Prelude.{◌≡◌, ℕ, false, List, [], length, replicate, slice_get, Some, None}
 use Rattle.like_limits.specs.Buckets.{run_factor}
-use Rattle.like_requests.specs.Pages.{Page, marks_of}
-use Rattle.like_requests.specs.declared.setup.Setup.{Setup}
-use Rattle.like_core.specs.declared.opening.Opening.{Opening}
-use Rattle.like_core.specs.OpeningLimits.{run_limits}
-use Rattle.like_core.specs.Post.{IsFresh}
-use Rattle.like_board.specs.declared.worker_seat.WorkerSeat.{WorkerSeat}
+use Rattle.like_requests.specs.{Pages.Page, Pages.marks_of, Types.Setup}
+use Rattle.like_core.specs.{OpeningLimits.run_limits, Post.IsFresh, Types.Opening, Types.WorkerSeatView}
 use Rattle.like_board.specs.Seats.{BoardId, seat_board, seat_view}
-use Rattle.like_core.specs.declared.view.WorkerSeatView.{WorkerSeatView}
-use Rattle.like_tables.specs.Share.{dealt, share_of}
-use Rattle.like_tables.specs.UserTable.{table_without_likes}
-use Rattle.like_roles.specs.declared.terms.Terms.{Terms}
-use Rattle.like_roles.specs.worker.Posted.{PostedWorker}
-use Rattle.like_roles.specs.worker.WorkerView.{WorkerView}
+use Rattle.like_board.specs.declared.worker_seat.WorkerSeat.{WorkerSeat}
+use Rattle.like_tables.specs.{Share.dealt, Share.share_of, UserTable.table_without_likes}
+use Rattle.like_roles.specs.{declared.terms.Terms.Terms, worker.Posted.PostedWorker, worker.WorkerView.WorkerView}
 
 -- a board of a run with these pages, where page i has bucket i
 pub record IsBoardOf (pages : List Page) (z : Opening) : Type 0 where

@@ -1,17 +1,11 @@
 -- What running a request does to a worker.
 use Rattle.std.specs.Prelude.{◌≡◌, ℕ, ◌≤◌, Bool, if◌then◌else◌, List, [], ◌∷◌, ◌++◌, length, map}
-use Rattle.like_requests.specs.declared.request.Request.{Request}
-use Rattle.like_requests.specs.declared.verdict.Verdict.{Verdict}
-use Rattle.like_core.specs.declared.view.Addition.{Addition}
-use Rattle.like_core.specs.Post.{has_read, additions_of, number_of, is_split_at}
-use Rattle.like_tables.specs.UserTable.{last_of, with_last}
-use Rattle.like_tables.specs.declared.held.Held.{Held}
+use Rattle.like_requests.specs.Types.{Request, Verdict}
+use Rattle.like_core.specs.{Post.additions_of, Post.has_read, Post.is_split_at, Post.number_of, Types.Addition}
+use Rattle.like_tables.specs.{UserTable.last_of, UserTable.with_last, declared.held.Held.Held}
 use Rattle.like_seat.specs.Steps as steps
-use Rattle.like_promises.specs.declared.log.Added.{Added}
-use Rattle.like_promises.specs.declared.log.Ran.{Ran}
-use Rattle.like_promises.specs.declared.reply.Reply.{Reply}
-use Rattle.like_promises.specs.declared.reply.Reply.TheVariants.{Liked, Seen, Refused}
 use Rattle.like_promises.specs.Store.{like, look, refuse}
+use Rattle.like_promises.specs.Types.{Added, Liked, Ran, Refused, Reply, Seen}
 use Rattle.like_roles.specs.worker.WorkerView.{WorkerView, asked_in, phase_at, station_of, with_station}
 
 -- an addition as it is noted when `at` entries had run

@@ -1,25 +1,16 @@
 -- The turns of a worker, case by case.
 use Rattle.std.specs.Prelude.{◌≡◌, ◌≢◌, ◌⊎◌, ℕ, ◌+◌, ◌-◌, ◌%◌, ◌<◌, ◌≤◌, ◌==◌, count_by, ⊤, Bool, true, false, List, [], ◌∷◌, ◌++◌, length, map, slice_index, slice_index_or, slice_set, Some, None}
-use Rattle.like_requests.specs.declared.request.Numbered.{Numbered}
-use Rattle.like_requests.specs.declared.request.Taken.{Taken}
-use Rattle.like_requests.specs.declared.request.Taken.TheVariants as taken
-use Rattle.like_core.specs.declared.sight.Sight.{Sight}
-use Rattle.like_core.specs.declared.worker_state.WorkerState.TheVariants.{Gone}
+use Rattle.like_requests.specs.{Setup.IsThere, Types.Numbered, Types.Taken, Types.Taken as taken}
 use Rattle.like_core.specs.WorkerState.{IsSightOf, RunsJoined, RunsSplit}
-use Rattle.like_core.specs.declared.view.Addition.{Addition}
-use Rattle.like_core.specs.PhaseMasks.{KeepsMasks}
-use Rattle.like_core.specs.declared.log.Logged.{Logged}
-use Rattle.like_core.specs.PageSteps.{step_adding}
-use Rattle.like_core.specs.Post.{looked_at, answered, number_of, retired, pages_of}
+use Rattle.like_core.specs.{PageSteps.step_adding, PhaseMasks.KeepsMasks, Post.answered, Post.looked_at, Post.number_of}
+use Rattle.like_core.specs.{Post.pages_of, Post.retired, Types.Addition, Types.Gone, Types.Logged, Types.Sight}
 use Rattle.like_tables.specs.declared.held.Held.{Held}
-use Rattle.like_roles.specs.declared.turn.Turn.{Turn}
-use Rattle.like_roles.specs.declared.turn.Turn.TheVariants as turn
-use Rattle.like_requests.specs.Setup.{IsThere}
 use Rattle.like_seat.specs.Merge as merge
-use Rattle.like_roles.specs.worker.Merges.{Merges}
 use Rattle.like_seat.specs.Steps as steps
-use Rattle.like_roles.specs.worker.WorkerView.{WorkerView, TookAllEnds, IsNextOpen, has_to_wait, phase_at, station_of, submitter_at, with_station}
-use Rattle.like_roles.specs.worker.Serve.{Runs, noted}
+use Rattle.like_roles.specs.declared.turn.Turn.{Turn, Turn as turn}
+use Rattle.like_roles.specs.worker.WorkerView.{IsNextOpen, TookAllEnds, WorkerView, has_to_wait, phase_at, station_of}
+use Rattle.like_roles.specs.worker.WorkerView.{submitter_at, with_station}
+use Rattle.like_roles.specs.worker.{Merges.Merges, Serve.Runs, Serve.noted}
 
 -- the worker after a look, with this number: where it enters a split phase it has also read that phase's mask, which is
 -- this

@@ -1,13 +1,11 @@
 -- A worker's work, at a post.
 use Rattle.std.specs.Prelude.{[]}
-use Rattle.like_core.specs.declared.view.WorkerSeatView.{WorkerSeatView}
-use Rattle.like_seat.specs.Kept as kept
-use Rattle.like_seat.specs.Kept.{IsKept}
-use Rattle.like_seat.specs.StationView.{StationView}
+use Rattle.like_core.specs.Types.{WorkerSeatView}
 use Rattle.like_tables.specs.declared.held.Held.{Held}
-use Rattle.like_roles.specs.declared.worker.tasks.Work.{Work}
+use Rattle.like_seat.specs.{Kept.IsKept, StationView.StationView}
+use Rattle.like_seat.specs.Kept as kept
 use Rattle.like_roles.specs.worker.Ledger.{IsSettled, IsSound, view_of}
-use Rattle.like_roles.specs.worker.WorkerView.{WorkerView}
+use Rattle.like_roles.specs.{declared.worker.tasks.Work.Work, worker.WorkerView.WorkerView}
 
 -- its station at a post whose seat knows this; which board that is at is told apart
 abbrev pub station_at : WorkerSeatView → Work → StationView Held

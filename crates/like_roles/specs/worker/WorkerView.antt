@@ -1,22 +1,11 @@
 -- What a worker is, as contracts see it.
 use Rattle.std.specs.Prelude.{◌≡◌, ℕ, ◌+◌, ◌-◌, ◌<◌, nat_le, if◌then◌else◌, Bool, true, false, List, [], length, slice_index_or, Option}
-use Rattle.like_requests.specs.Verdict.{is_known, verdict_of}
-use Rattle.like_requests.specs.declared.request.Request.{Request}
-use Rattle.like_promises.specs.Asked.{asked_by}
-use Rattle.like_promises.specs.Order.{must_wait}
-use Rattle.like_promises.specs.Store.{Ask}
-use Rattle.like_core.specs.WorkerState.{phase_of}
-use Rattle.like_core.specs.Post.{is_split_at}
-use Rattle.like_core.specs.declared.view.WorkerSeatView.{WorkerSeatView}
-use Rattle.like_seat.specs.StationView.{StationView}
-use Rattle.like_seat.specs.SlicedLike.{SlicedLike}
+use Rattle.like_requests.specs.{Types.Request, Verdict.is_known, Verdict.verdict_of}
+use Rattle.like_core.specs.{Post.is_split_at, Types.WorkerSeatView, WorkerState.phase_of}
 use Rattle.like_tables.specs.Share.{Share, submitter_of}
-use Rattle.like_tables.specs.declared.held.Held.{Held}
-use Rattle.like_tables.specs.UserTable.{UserTable}
-use Rattle.like_tables.specs.StashView.{StashView}
-use Rattle.like_promises.specs.declared.log.Added.{Added}
-use Rattle.like_promises.specs.declared.log.Ran.{Ran}
-use Rattle.like_promises.specs.declared.log.Took.{Took}
+use Rattle.like_tables.specs.{StashView.StashView, UserTable.UserTable, declared.held.Held.Held}
+use Rattle.like_seat.specs.{SlicedLike.SlicedLike, StationView.StationView}
+use Rattle.like_promises.specs.{Asked.asked_by, Order.must_wait, Store.Ask, Types.Added, Types.Ran, Types.Took}
 
 -- its post; its stash, which is its backlog in a joined phase; its slice, a
 -- number for each page; all likes that ever went into its slice, in order; for each of its submitters by rank, how many
