@@ -5,8 +5,8 @@ use Rattle.like_hosts.proofs.hub.host_many.Goals as goal
 pub returns-clause-strict : goal.returns-clause-strict
 returns-clause-strict c =
     let it = c.in-Ok.ensures.closed in
-    λ is_closed. hosted c.args.opening.now c.in_ok-hub.hub.service it.keeper c.close.new.counts
-    c.in_ok-hub.ensures.opened it.closed
+    λ is_closed. hosted c.args.opening.now c.in_ok-hub.hub.service it.0 c.close.new.counts
+    c.in_ok-hub.ensures.opened it.2
 
 pub returns-clause-unchanged : goal.returns-clause-unchanged
 returns-clause-unchanged c = λ no. absurd (no refl)
