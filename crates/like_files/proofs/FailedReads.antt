@@ -36,7 +36,8 @@ pub plan-told : {R : Type 0} (readers : List R) (place : ℕ) (reader : R) (answ
     → Stops answer place fault
     → TellsPlanRead readers fault
 plan-told readers place reader answer fault at own stops = λ file script.
-    subst (TellsRead file readers script) (sym stops.named) (λ is. rw at (by_answer stops.why stops.stood is))
+    subst (TellsRead file readers script) (sym stops.named)
+    (λ is. (place, refl, rw at (by_answer stops.why stops.stood is)))
   where
     by_answer : (why : RequestsFault) → (answer ≡ Err why) ⊎ (why ≡ Memory) → why ≡ Read → ReadFailed reader
     by_answer why (inl stood) is = (subst (TellsOwn reader) stood own) is

@@ -7,6 +7,7 @@ use Rattle.std.proofs.lemmas.List.{length-map}
 use Rattle.std.proofs.lemmas.Option.{slice_get-map, slice_get_read}
 use Rattle.like_requests.specs.declared.script_file.ScriptFault.TheVariants as script_fault
 use Rattle.like_command.specs.declared.options.Options.{Options}
+use Rattle.like_files.specs.Faults.{submitter_at}
 use Rattle.like_files.specs.Opened.{AreNamed, IsUnopened, StopsAt, opened_as, stopped_by}
 use Rattle.like_files.specs.StandardInput.{names_of}
 use Rattle.like_files.specs.Tries.{Tries, Try}
@@ -102,15 +103,17 @@ module _ {R : Type 0} (old mid new : Option (List (Try R))) (options : Options) 
   requested = map string_bytes options.requests.items
 
   -- a request file stopped the opening, after the pages file was opened
-  pub unopened-requests : (submitter : ℕ) (last : Option R) → StopsAt mid new requested submitter last
-      → IsUnopened old new options (driver.Requests submitter (stopped_by last))
-  unopened-requests submitter last stops = (
+  pub unopened-requests : (place : ℕ) (last : Option R) → StopsAt mid new requested place last
+      → IsUnopened old new options (driver.Requests (submitter_at place) (stopped_by last))
+  unopened-requests place last stops = (
+    place,
+    refl,
     last,
     refl,
-    subst (λ n. StopsAt old new (string_bytes options.pages ∷ requested) n last) (sym (add-one submitter)) (record {
+    subst (λ n. StopsAt old new (string_bytes options.pages ∷ requested) n last) (sym (add-one place)) (record {
       readers = pages ∷ stops.readers;
       opened = ap suc stops.opened;
-      tries = both (slice_get requested submitter) (λ name.
+      tries = both (slice_get requested place) (λ name.
           opened_as requested stops.readers ++ tried name last ∷ []) stops.tries;
     }),
   )

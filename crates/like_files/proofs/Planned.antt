@@ -13,6 +13,7 @@ use Rattle.like_requests.specs.declared.requests_file.RequestsFault.{RequestsFau
 use Rattle.like_requests.specs.declared.requests_file.RequestsFault.TheVariants.{Memory}
 use Rattle.like_promises.proofs.Lists.{AllZip-more}
 use Rattle.like_replies.proofs.Lists.{AllZip-by_place}
+use Rattle.like_files.specs.Faults.{submitter_at}
 use Rattle.like_files.specs.Inputs.{GivesPlan, GivesPlans, OfRecords, RefusesPlan, RefusesPlans}
 use Rattle.like_files.specs.Plans.{Answer, IsFirstStop, Stops}
 use Rattle.like_files.specs.declared.fault.DriverFault.{DriverFault}
@@ -116,7 +117,9 @@ RefusesPlans-next source_of pages readers done reader answer plans fault front t
     (slice_get_read readers (length readers) (length done) reader refl there is) in
     let before : take (length done) (map source_of readers) ≡ map source_of done =
     take-map source_of (length done) readers ∙ ap (map source_of) front in
-    subst (RefusesPlans pages (map source_of readers)) (sym (stops.named ∙ ap (λ n. driver.Requests n stops.why) size)) (
+    subst (RefusesPlans pages (map source_of readers)) (sym stops.named) (
+      length done,
+      ap submitter_at size,
       (map requests_of plans, rw before given),
       rw at (refused_by source_of pages reader answer stops.why reads stops.stood),
     )
@@ -161,7 +164,7 @@ pub RefusesPlans-memory : {R : Type 0} (source_of : R → Option (List ℕ)) (pa
     → RefusesPlans pages (map source_of readers) (driver.Requests 0 Memory)
 RefusesPlans-memory source_of pages [] some = absurd (let no : 0 < 0 = some in omega (arith, no))
 RefusesPlans-memory source_of pages (reader ∷ readers) some =
-    (([], tt), λ rows there. tt)
+    (0, refl, ([], tt), λ rows there. tt)
 
 -- the first that gave none is refused
 pub RefusesPlans-in_parallel : {R : Type 0} (source_of : R → Option (List ℕ)) (pages : List Page) (readers : List R)
@@ -190,7 +193,7 @@ RefusesPlans-in_parallel source_of pages readers answers fault reads first =
           let refused : RefusesPlan (source_of reader) stops.why =
           refused_by source_of pages reader answer stops.why reads_it stops.stood in
           subst (RefusesPlans pages sources) (sym stops.named)
-          ((map requests_of first.plans, before), rw source refused)
+          (first.place, refl, (map requests_of first.plans, before), rw source refused)
 
       by_answer : (o : Option Answer) → IsSomeAnd o (λ answer. Stops answer first.place fault)
           → MatchOption o (Unit {0})

@@ -9,7 +9,7 @@ use Rattle.like_promises.specs.{Report.IsReportOf, Types.Report}
 use Rattle.like_replies.specs.{Notices.notice_of, Output.HasBegun, declared.notice.Notice.Notice}
 use Rattle.like_replies.specs.{PlaceRows.text_of, declared.extent.Extent.Extent}
 use Rattle.like_command.specs.declared.options.Options.{Options}
-use Rattle.like_files.specs.Types.{DriverFault, DriverFault as driver, Opened}
+use Rattle.like_files.specs.{Faults.submitter_at, Types.DriverFault, Types.DriverFault as driver, Types.Opened}
 
 -- the bytes of the pages file and of each request file, where they are known, and those of the script file where there is one
 pub record Inputs : Type 0 where
@@ -69,8 +69,9 @@ GivesPlans pages sources plans = AllZip (GivesPlan pages) sources plans
 -- why the request files give no plans: the first that is refused
 abbrev pub RefusesPlans : List Page → List (Option (List ℕ)) → DriverFault → Type 0
 RefusesPlans pages sources (driver.Requests submitter fault) =
-    ((plans : List (List Request)) × GivesPlans pages (take submitter sources) plans)
-    × IsSomeAnd (slice_get sources submitter) (λ source. RefusesPlan source fault)
+    (place : ℕ) × (submitter ≡ submitter_at place)
+    × ((plans : List (List Request)) × GivesPlans pages (take place sources) plans)
+    × IsSomeAnd (slice_get sources place) (λ source. RefusesPlan source fault)
 RefusesPlans pages sources fault = ⊥
 
 -- why a pages file and request files give no values: the first fault of the pages file, or else of the request files

@@ -4,7 +4,7 @@ use Rattle.like_requests.specs.Types.{PagesFault as pages_fault, RequestsFault, 
 use Rattle.like_requests.specs.Types.{ScriptFault as script_fault}
 use Rattle.like_command.specs.declared.options.Options.{Options}
 use Rattle.like_files.specs.Types.{DriverFault, Opened, Pages, Requests, Script}
-use Rattle.like_files.specs.{StandardInput.names_of, Tries.Tries, Tries.Try}
+use Rattle.like_files.specs.{Faults.submitter_at, StandardInput.names_of, Tries.Tries, Tries.Try}
 
 module _ {R : Type 0} where
   -- the files of these names were opened, in their order
@@ -38,8 +38,8 @@ module _ {R : Type 0} where
     abbrev pub IsUnopened : Options → DriverFault → Type 0
     IsUnopened options (Pages why) = (why ≡ pages_fault.Read) × StopsAt (names_of options) 0 None
     IsUnopened options (Requests submitter why) =
-        (last : Option R) × (why ≡ stopped_by last)
-        × StopsAt (string_bytes options.pages ∷ map string_bytes options.requests.items) (submitter + 1) last
+        (place : ℕ) × (submitter ≡ submitter_at place) × (last : Option R) × (why ≡ stopped_by last)
+        × StopsAt (string_bytes options.pages ∷ map string_bytes options.requests.items) (place + 1) last
     IsUnopened options (Script why) =
         (why ≡ script_fault.Read) × StopsAt (names_of options) (length options.requests.items + 1) None
     IsUnopened options fault = ⊥

@@ -3,7 +3,7 @@ use Rattle.std.specs.Prelude.{◌≡◌, ◌⊎◌, ℕ, List, map, take, slice_
 use Rattle.std.specs.declared.alloc.Global.{Global}
 use Rattle.like_requests.specs.Types.{Request, RequestsFault}
 use Rattle.like_requests.specs.declared.requests_file.RequestsFault.TheVariants.{Memory}
-use Rattle.like_files.specs.Types.{DriverFault, Requests}
+use Rattle.like_files.specs.{Faults.submitter_at, Types.DriverFault, Types.Requests}
 
 -- what the reader of one file answers
 abbrev pub Answer : Type 0
@@ -12,7 +12,7 @@ Answer = Result (Vec Request Global) RequestsFault
 -- the answer at this place adds no plan: it is a fault, or memory was refused
 pub record Stops (answer : Answer) (place : ℕ) (fault : DriverFault) : Type 0 where
   pub why : RequestsFault
-  pub named : fault ≡ Requests place why
+  pub named : fault ≡ Requests (submitter_at place) why
   pub stood : (answer ≡ Err why) ⊎ (why ≡ Memory)
 
 -- the first answer that adds no plan

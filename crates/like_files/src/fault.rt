@@ -1,5 +1,7 @@
 ghost use Rattle.std.specs.Prelude.{◌≡◌};
+ghost use Rattle.like_files.specs.Faults.{submitter_at};
 ghost use Rattle.like_files.specs.Lines.{told};
+ghost use Rattle.like_files.specs.declared.fault.DriverFault.TheVariants as driver;
 
 use like_replies::WriteFault;
 use like_requests::{PagesFault, RequestsFault, SettingsFault};
@@ -13,7 +15,7 @@ pub enum DriverFault {
     Pages(PagesFault),
     #[error("{fault}")]
     Requests {
-        submitter: usize,
+        submitter: u32,
         fault: RequestsFault,
     },
     #[error("{0}")]
@@ -100,6 +102,16 @@ impl From<WriteFault> for DriverFault {
 }
 
 impl DriverFault {
+    /// The fault of the request file at a place. A submitter's number is at most 2^32 - 1.
+    pub(crate) fn of_requests(place: usize, fault: RequestsFault) -> DriverFault
+        ensures { result ≡ driver.Requests (submitter_at place) fault }
+    {
+        DriverFault::Requests {
+            submitter: place.min(u32::MAX as usize) as u32,
+            fault,
+        }
+    }
+
     /// The exit status.
     pub fn status(&self) -> u8
         ensures { result ≡ (told self.now).0 }

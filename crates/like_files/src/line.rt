@@ -66,7 +66,7 @@ impl DriverFault {
         match self {
             DriverFault::Pages(_) => options.pages.as_str(),
             DriverFault::Requests { submitter, .. } => {
-                match options.requests.get(*submitter) {
+                match options.requests.get(*submitter as usize) {
                     Some(name) => name.as_str(),
                     None => "",
                 }

@@ -1,4 +1,5 @@
 ghost use Rattle.std.specs.Prelude.{◌≡◌, ℕ, MatchResult, length, map, string_bytes};
+ghost use Rattle.like_files.specs.Faults.{submitter_at};
 ghost use Rattle.like_files.specs.Opened.{AreNamed, IsUnopened, StopsAt, opened_as, stopped_by};
 ghost use Rattle.like_files.specs.Tries.{Tries};
 ghost use Rattle.like_files.specs.declared.fault.DriverFault.TheVariants as driver;
@@ -58,22 +59,16 @@ fn open_requests<O: Opener>(
     ensures { let texts = map string_bytes names.now in MatchResult result
         (λ readers. (length readers.items ≡ length texts)
         × Tries (O.tries opener.old) (O.tries opener.new) (opened_as texts readers.items))
-        (λ fault. (place : ℕ) × (last : _) × (fault ≡ driver.Requests place (stopped_by last))
+        (λ fault. (place : ℕ) × (last : _) × (fault ≡ driver.Requests (submitter_at place) (stopped_by last))
         × StopsAt (O.tries opener.old) (O.tries opener.new) texts place last) }
 {
     let mut opened = Vec::new(alloc);
     for (place, name) in names.iter().enumerate() {
         let Some(file) = opener.open(name.as_str()) else {
-            return Err(DriverFault::Requests {
-                submitter: place,
-                fault: RequestsFault::Read,
-            });
+            return Err(DriverFault::of_requests(place, RequestsFault::Read));
         };
         if opened.push(file).is_err() {
-            return Err(DriverFault::Requests {
-                submitter: place,
-                fault: RequestsFault::Memory,
-            });
+            return Err(DriverFault::of_requests(place, RequestsFault::Memory));
         }
     }
     Ok(opened)

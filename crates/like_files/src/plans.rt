@@ -49,10 +49,7 @@ pub fn read_plans_in_parallel<T: Threads + Sync, R: Read + Drop + Send>(
     { read_requests(alloc, reader, pages) };
     match thread::map_vec(rt, requests, &read) {
         Ok(answers) => gather(alloc, answers),
-        Err(_) => Err(DriverFault::Requests {
-            submitter: 0,
-            fault: RequestsFault::Memory,
-        }),
+        Err(_) => Err(DriverFault::of_requests(0, RequestsFault::Memory)),
     }
 }
 
@@ -80,14 +77,13 @@ fn add_plan(
     ensures added { OnOk result (map Ok plans.new.items ≡ map Ok plans.old.items ++ answer ∷ []) }
     ensures stopped { IfErr result (Stops answer (length plans.old.items)) }
 {
-    let submitter = plans.len();
+    let place = plans.len();
     let plan = match answer {
         Ok(plan) => plan,
-        Err(fault) => return Err(DriverFault::Requests { submitter, fault }),
+        Err(fault) => return Err(DriverFault::of_requests(place, fault)),
     };
     if plans.push(plan).is_err() {
-        let fault = RequestsFault::Memory;
-        return Err(DriverFault::Requests { submitter, fault });
+        return Err(DriverFault::of_requests(place, RequestsFault::Memory));
     }
     Ok(())
 }

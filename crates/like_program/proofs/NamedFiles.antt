@@ -141,16 +141,19 @@ module _ {R : Type 0} (left : R → Option (List ℕ)) (before after : Option (L
       → IsUnopened before after options (driver.Requests submitter why)
       → RefusesLists unread.pages unread.requests (driver.Requests submitter why)
   request-unopened submitter why unopened =
+      let (place, named, last, reason, stops) = unopened in
       let names = options.requests.items in
-      let plans = unknown-plans [] (take submitter names) in
-      let at = rw (add-one submitter, slice_get-map string_bytes names submitter) at unopened.2.tries in (
+      let plans = unknown-plans [] (take place names) in
+      let at = rw (add-one place, slice_get-map string_bytes names place) at stops.tries in (
         [],
         (λ rows none. absurd (none-some rows none)),
         (
-          (plans.0, rw (take-map unknown submitter names) plans.1),
-          rw (slice_get-map unknown names submitter)
-              (unknown-plan _ (slice_get names submitter) why
-              (there-mapped string_bytes _ (slice_get names submitter) at)),
+          place,
+          named,
+          (plans.0, rw (take-map unknown place names) plans.1),
+          rw (slice_get-map unknown names place)
+              (unknown-plan _ (slice_get names place) why
+              (there-mapped string_bytes _ (slice_get names place) at)),
         ),
       )
 

@@ -18,7 +18,7 @@ returns-in_default g c =
     let there : c.loop-place.place < length c.args.names.now = omega arith in (
       c.loop-place.place,
       None,
-      refl,
+      c.of_requests.ensures,
       stops-at _ _ _ (map string_bytes c.args.names.now) c.loop-place.opened.items c.loop-place.place _
           (name-at c.args.names.now c.loop-place.place c.index-names-place.result there c.index-names-place.is)
           c.loop-place.invariant.0 c.loop-place.invariant.1 None (rw c.as_str.ensures.value at c.in_default.ensures),
@@ -29,7 +29,7 @@ returns-then-is_err g c =
     let there : c.loop-place.place < length c.args.names.now = omega arith in (
       c.loop-place.place,
       Some c.in-Some.file,
-      refl,
+      c.of_requests-then-is_err.ensures,
       stops-at _ _ _ (map string_bytes c.args.names.now) c.loop-place.opened.items c.loop-place.place _
           (name-at c.args.names.now c.loop-place.place c.index-names-place.result there c.index-names-place.is)
           c.loop-place.invariant.0 c.loop-place.invariant.1 (Some c.in-Some.file)

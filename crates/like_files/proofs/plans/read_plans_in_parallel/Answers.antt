@@ -24,7 +24,7 @@ pub returns-in-Err : goal.returns-in-Err
 returns-in-Err g c =
     let some : 0 < length c.args.requests.items =
     omega (arith, c.if-len-lt2.false, c.len.ensures, c.args.requests.ok.0) in
-    record {
+    rw c.of_requests.ensures (record {
       plans = RefusesPlans-memory g.R.Read.remaining c.args.pages.now c.args.requests.items some;
       read = λ file script is. cc is;
-    }
+    })
